@@ -67,7 +67,7 @@ fn moments(alloc: Global, word: &str) -> anyhow::Result<Moments> {
     Ok(moments)
 }
 
-/// So many moments of a clock.
+/// The next moments of a clock, as many as `count`.
 fn text_of_clock(alloc: Global, clock: &mut ListClock, count: u32) -> anyhow::Result<String> {
     let mut answers = String::new(alloc);
     for _ in 0..count {

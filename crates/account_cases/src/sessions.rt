@@ -22,7 +22,7 @@ fn remove(alloc: Global, sessions: &mut Sessions, parts: &[&str]) -> anyhow::Res
     Ok(truth(removed).to_string(alloc)?)
 }
 
-/// So many are added, with logon ids from 0 on: what the last one is answered.
+/// Adds as many sessions as the fourth part says, with logon ids from 0 on, and tells what the last one is answered.
 fn fill(alloc: Global, sessions: &mut Sessions, parts: &[&str]) -> anyhow::Result<String> {
     let computer = text_units(alloc, word(parts, 1))?;
     let user = text_units(alloc, word(parts, 2))?;

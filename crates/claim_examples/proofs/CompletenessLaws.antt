@@ -103,7 +103,7 @@ two_can current next tried secret = record {
   may = (ann_may 0, ann_may 0);
 }
 
--- what such a plan says
+-- the client's task, and the member's plan, are those of `able_plan`
 the_task : (accounts : List Account) (secret hash : List ℕ) (moves : List Move) (can : CanSucceed (able_plan accounts secret hash) moves 0) → able_client hash ≡ can.task
 the_task accounts secret hash moves can = let is : Some (able_client hash) ≡ Some can.task = can.is_task in cc
 

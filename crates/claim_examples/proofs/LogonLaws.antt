@@ -233,7 +233,7 @@ not_own : (hash : List ℕ) (link : ℕ) → hashed_challenge_of small_challenge
     IsPlainlyAccepted (small_run (two_as extended_message extended_flags)) (taken_as extended_message extended_flags (message_of_link link)) hash → ⊥
 not_own hash link hashed one = hashed (sym (challenge_for_of-ess extended_flags small_challenge extended_message.lm extended_message.nt extended_pair) ∙ one.own)
 
--- such a response on that link
+-- NTLMv1's response to the link's challenge lets in on that link
 short_of : (past : Past) (told : OutcomeTold) (link : ℕ) → is_in told.outcome ≡ true → link ≡ told.link → taken_answer (message_of_link link) past.book.judged ≡ Some judging →
     IsLetInShortly past told (response_v1_of small_hash small_challenge) small_hash (message_of_link link)
 short_of past told link let_in is answer = record {

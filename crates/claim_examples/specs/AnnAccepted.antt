@@ -1,5 +1,5 @@
--- All that is proved of runs is so of the example's, a message of it is accepted, and client and member hold its key
--- (this project's own choice).
+-- All that is proved of runs holds of the example's run, a message of it is accepted, and client and member hold its
+-- key (this project's own choice).
 use Rattle.std.specs.Prelude.{◌≡◌, true, Some}
 use Rattle.wire_base.specs.Lists.{OneOf}
 use Rattle.step_notes.specs.Records.{ChallengeSent, Judging, MessageMade, MessageTaken, OutcomeTold}

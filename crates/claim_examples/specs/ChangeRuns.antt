@@ -49,11 +49,11 @@ begun_moves = move.Change 0 new_secret ∷ []
 abbrev pub set_moves : List Move
 set_moves = move.Connect ∷ move.Onward ∷ move.Onward ∷ move.Onward ∷ move.Lose ∷ []
 
--- it opens its channel under the old one
+-- FILE1 opens its channel under its old secret
 abbrev pub opened_moves : List Move
 opened_moves = begun_moves ++ message_moves ++ turn_moves ++ turn_moves
 
--- It sets the new one on it. The reply that says so is lost.
+-- FILE1 sets the new secret on that channel, and the reply that says so is lost
 abbrev pub lost_moves : List Move
 lost_moves = opened_moves ++ set_moves
 
@@ -61,15 +61,15 @@ lost_moves = opened_moves ++ set_moves
 abbrev pub anew_moves : List Move
 anew_moves = move.Shut 1 ∷ move.Onward ∷ move.Restart 1 ∷ []
 
--- she starts again, the channel is denied under the old secret, and she hears of it
+-- ann starts again, the channel is denied under the old secret, and she hears that there is no answer
 abbrev pub denied_moves : List Move
 denied_moves = lost_moves ++ anew_moves ++ message_moves ++ turn_moves ++ turn_moves ++ move.Onward ∷ []
 
--- She starts once more, and the channel opens under the new one.
+-- ann starts once more, and FILE1's channel opens under the new secret
 abbrev pub learned_moves : List Move
 learned_moves = denied_moves ++ message_moves ++ turn_moves ++ turn_moves
 
--- Her logon goes out on it and is granted. She hears who she is, asks for an echo, and has it.
+-- ann's logon goes out on the new channel and is granted. She hears who she is, asks for an echo, and has it.
 abbrev pub in_moves : List Move
 in_moves = learned_moves ++ turn_moves ++ move.Onward ∷ move.Onward ∷ move.Onward ∷ []
 
@@ -111,7 +111,7 @@ pub record LeavesNoneApart (moves : List Move) (begins : BeginsAlike changing_pl
   pub has : Has (past changing_plan moves) at_controller secrets
   pub claimed : Proved changing_plan moves → IsNeverApart (past changing_plan moves) 0 begins
 
--- her first two logons have no answer, and the third one is granted; two calls passed, the Set and that logon's
+-- ann's first two logons have no answer, and the third one is granted; two calls passed, the Set and that logon's
 abbrev pub in_report : Report
 in_report = record { moves = 66; accepted = 1; refused = 0; no_controller = 2; passed = 2; barred = 0 }
 

@@ -133,7 +133,7 @@ small_run book = run_in small_world book
 
 -- ---- one logon: its call went out in unit 7 and was answered in unit 8
 
--- her name in UTF-16, and her NTLMv1 response to the challenge of the link
+-- ann's message: her name in UTF-16, and her NTLMv1 response to the challenge of the link
 abbrev pub small_message : Authenticate
 small_message = record {
   flags = negotiate_unicode;
@@ -176,7 +176,7 @@ call_with given = record {
   validation = 3;
 }
 
--- it passed, and is checked on no channel
+-- ann's call: it passed, and is checked on no channel
 abbrev pub judging : Judging
 judging = record {
   at = 6;
@@ -286,12 +286,12 @@ abbrev pub taken_in : Mark → ServedUnit AtTurn TurnTalk → Book
 taken_in mark served =
     note_turn (record no_note { checked = Some small_name }) served (Some 0) None (record blank { sent = sent_at 0 mark ∷ [] })
 
--- whether it clashes where a controller's turn took it
+-- whether a unit of that mark clashes where a controller's turn took it
 abbrev pub asked_in : Mark → Bool
 asked_in mark = any_turn_clash (record no_note { checked = Some small_name } ∷ []) (Some 0) (sent_at 0 mark ∷ [])
 
--- a clash: not where the unit was a call on the channel, or bytes from outside, but where it was made for no channel,
--- or for another controller's; at a member likewise, by the reply
+-- A clash at a controller: not where the unit was a call on the channel, or bytes from outside, but where it was made
+-- for no channel, or for another controller's. A clash at a member is told apart by the reply in the same way.
 pub record OfClashes : Type 0 where
   pub alike : (passed_in (Calling small_name 3 0)).clash ≡ false
   pub outside : passed_outside.clash ≡ false
@@ -300,7 +300,7 @@ pub record OfClashes : Type 0 where
   pub taken_alike : (served : ServedUnit AtTurn TurnTalk) → (taken_in (ReplyTo small_name 3 7) served).clash ≡ false
   pub taken_none : (served : ServedUnit AtTurn TurnTalk) → (taken_in Plain served).clash ≡ true
   pub taken_other : (served : ServedUnit AtTurn TurnTalk) → (taken_in (ReplyTo (record small_name { controller = 1 }) 3 7) served).clash ≡ true
-  -- so it is where a controller's turn took it
+  -- a unit that a controller's turn took clashes alike
   pub asked_alike : asked_in (ReplyTo small_name 3 7) ≡ false
   pub asked_none : asked_in Plain ≡ true
   pub asked_other : asked_in (ReplyTo (record small_name { controller = 1 }) 3 7) ≡ true
@@ -417,7 +417,7 @@ abbrev pub keeping_controller : List ℕ → ControllerState
 keeping_controller seed =
     record { table = small_table; name = codes "PDC"; running = Some (keeping_running seed); trusting = no_trusting }
 
--- both ends with these seeds
+-- a world whose member and controller have an open channel, with these seeds
 abbrev pub world_open : Option Pending → List ℕ → List ℕ → World
 world_open turn seed other =
     let w : World = small_world in
@@ -450,7 +450,7 @@ one_turn = record blank { turns = small_turn ∷ [] }
 abbrev pub two_turns : Book
 two_turns = record blank { turns = small_turn ∷ small_turn ∷ [] }
 
--- its call went out
+-- a turn whose Logon call went out
 abbrev pub turn_out : Pending
 turn_out = record { number = 3; place = 0; step = step.Reply question.Logon }
 
@@ -506,7 +506,7 @@ response_was nt = small_run (record one_logon { messages = with_response nt ∷ 
 abbrev pub passed_twice : Past
 passed_twice = small_run (record one_logon { judged = record judging { at = 7; reply = Some 9 } ∷ judging ∷ [] })
 
--- another member accepted link 3
+-- a world in which another member accepted link 3
 abbrev pub other_member_accepts : World
 other_member_accepts =
     world_of (ToController 0 0 ∷ ToController 0 0 ∷ ToController 0 0 ∷ ToMember 0 1 ∷ []) (small_challenge ∷ [])
@@ -518,17 +518,17 @@ pub record OfAcceptingOnly : Type 0 where
   pub fails : AcceptsOnlyGranted (small_run (record one_logon { messages = [] })) → ⊥
   pub fails_barred : AcceptsOnlyGranted (answered_by (judged_as judged.Barred judging)) → ⊥
   pub fails_elsewhere : AcceptsOnlyGranted (small_run (record one_logon { told = record (told_of_link 3) { member = 1 } ∷ [] })) → ⊥
-  -- it isn't met where another controller answered than that of the plan, or the call passed at two steps
+  -- accepting isn't met where another controller answered than that of the plan, or the call passed at two steps
   pub fails_controller : AcceptsOnlyGranted (answered_by (elsewhere judging)) → ⊥
   pub fails_twice : AcceptsOnlyGranted passed_twice → ⊥
-  -- it isn't met where the account is disabled, or isn't there
+  -- accepting isn't met where the account is disabled, or isn't there
   pub fails_disabled : AcceptsOnlyGranted (answered_by (by_accounts (record small_account { disabled = true } ∷ []))) → ⊥
   pub fails_unknown : AcceptsOnlyGranted (answered_by (by_accounts [])) → ⊥
-  -- it isn't met where the response is that to another challenge, or has 25 bytes
+  -- accepting isn't met where the response is that to another challenge, or has 25 bytes
   pub fails_response : AcceptsOnlyGranted (response_was (response_v1_of small_hash (replicate 8 8))) → ⊥
   pub fails_long : AcceptsOnlyGranted (response_was (replicate 25 0)) → ⊥
-  -- it isn't met where the challenge was drawn twice or not at all, or was sent on another link, the link took two
-  -- messages, or another member accepted it
+  -- accepting isn't met where the challenge was drawn twice or not at all, or was sent on another link, the link took
+  -- two messages, or another member accepted it
   pub fails_draws : AcceptsOnlyGranted (run_in drawn_twice one_logon) → ⊥
   pub fails_undrawn : AcceptsOnlyGranted (run_in (world_of small_links []) one_logon) → ⊥
   pub fails_unsent : AcceptsOnlyGranted (small_run (record one_logon { challenges = challenge_on 4 ∷ [] })) → ⊥

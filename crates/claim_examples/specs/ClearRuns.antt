@@ -71,7 +71,7 @@ pub record FirstLogonsAreClear : Type 0 where
   pub ann : LetsInClearly (past ann_plan ann_moves)
   pub ann_stands : HasSharedChannel (past ann_plan ann_moves)
   pub claimed : Proved ann_plan ann_moves → MeetsClearClaims (past ann_plan ann_moves)
-  -- its member begins with the hash of its account
+  -- FILE1 begins with the hash of its account
   pub begins : BeginsAlike ann_plan 0
   pub plain : AllByRecursion IsPlainMove ann_moves
   pub once : AllPairs (λ (one other : ℕ). one ≢ other) (started_in ann_moves (length ann_plan.clients))

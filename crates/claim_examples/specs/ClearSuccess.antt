@@ -6,14 +6,14 @@ use Rattle.domain_world.specs.Claims.Completeness.{CanSucceed, ComesOneAtATime, 
 use Rattle.domain_world.specs.Claims.OneByOne.{HaveOwnMembers, NoneClashes}
 use Rattle.domain_world.specs.Past.{Past, past}
 
--- her run, and the same with a clash written down
+-- ann's run, and the same with a clash written down
 abbrev pub ann_run : Past
 ann_run = past ann_plan ann_moves
 
 abbrev pub ann_clashed : Past
 ann_clashed = record ann_run { book = record ann_run.book { clash = true } }
 
--- Her account may log on in each state of the run. The run is a schedule that starts her alone, and the key of her
+-- Ann's account may log on in each state of the run. The run is a schedule that starts her alone, and the key of her
 -- logon arrives. She is in, with the member's key, her name and her whole echo, and the member told so. The member that
 -- she reaches has its own computer. So no credential clashes, which isn't so of the same run with a clash written down.
 pub record AnnCanSucceed : Type 0 where

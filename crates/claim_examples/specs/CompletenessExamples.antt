@@ -72,7 +72,7 @@ policy_table lockout only count = record small_table {
 abbrev pub policy_plan : ℕ → Bool → ℕ → Plan
 policy_plan lockout only count = table_plan (policy_table lockout only count) machine_secret small_hash
 
--- another member of the controller has the same name
+-- a plan in which another member of the controller has the same name
 abbrev pub alike_plan : Plan
 alike_plan = record ann_plan {
   members = able_member machine_secret ∷ record (able_member machine_secret) { computer = codes "file1" } ∷ [];

@@ -68,23 +68,23 @@ at_level level = record next_call { asked = Network (record next_logon { validat
 pub record OfGrants : Type 0 where
   pub meets : GrantsWhoMayLogOn (judged_by small_table next_call)
   pub disabled : GrantsWhoMayLogOn (judged_by disabled_table (judged_as (judged.Passed account_disabled) next_call))
-  -- her grant by the accounts of the plan, but for a count of bad passwords
+  -- ann's grant by the accounts of the plan, but for a count of bad passwords
   pub counted : GrantsWhoMayLogOn (judged_from small_table (record next_call { table = counted_table 1 }))
-  -- her grant with another hash of FILE1's account, as a NetrServerPasswordSet may have set it
+  -- ann's grant with another hash of FILE1's account, as a NetrServerPasswordSet may have set it
   pub set : GrantsWhoMayLogOn (judged_from (machine_table small_hash) (record next_call { table = machine_table (replicate 16 8) }))
   pub at_two : GrantsWhoMayLogOn (judged_by small_table (at_level 2))
   -- not where it was refused, or barred, though all is so
   pub fails_refused : GrantsWhoMayLogOn (judged_by small_table (judged_as (judged.Passed wrong_password) next_call)) → ⊥
   pub fails_barred : GrantsWhoMayLogOn (judged_by small_table (judged_as judged.Barred next_call)) → ⊥
-  -- it isn't met where she was granted with her account disabled, on a response to another challenge or of 25 bytes, at
-  -- another level, or with no channel
+  -- the claim isn't met where ann was granted with her account disabled, on a response to another challenge or of 25
+  -- bytes, at another level, or with no channel
   pub fails_disabled : GrantsWhoMayLogOn (judged_by disabled_table next_call) → ⊥
   pub fails_response : GrantsWhoMayLogOn (judged_by small_table (asking_for (with_response (response_v1_of small_hash (replicate 8 8))))) → ⊥
   pub fails_long : GrantsWhoMayLogOn (judged_by small_table (asking_for (with_response (replicate 25 0)))) → ⊥
   pub fails_level : GrantsWhoMayLogOn (judged_by small_table (at_level 4)) → ⊥
   pub fails_next : GrantsWhoMayLogOn (judged_by small_table judging) → ⊥
-  -- it isn't met where she was judged by other accounts than those of the plan or with another hash of hers, under
-  -- another name, or at a controller that the plan doesn't have
+  -- the claim isn't met where ann was judged by other accounts than those of the plan or with another hash of hers,
+  -- under another name, or at a controller that the plan doesn't have
   pub fails_table : GrantsWhoMayLogOn (judged_from empty_table next_call) → ⊥
   pub fails_set : GrantsWhoMayLogOn (judged_from (hashed_table (replicate 16 8)) (record next_call { table = small_table })) → ⊥
   pub fails_name : GrantsWhoMayLogOn (judged_by small_table (record next_call { name = codes "BDC" })) → ⊥
@@ -126,7 +126,7 @@ pub record OfSending : Type 0 where
 abbrev pub wrong_call : Judging
 wrong_call = record (asking_for (with_response (replicate 25 0))) { table = small_table; how = Some (judged.Passed wrong_password) }
 
--- her account is locked, so the call is refused before the response is looked at
+-- ann's account is locked, so the call is refused before the response is looked at
 abbrev pub locked_call : Judging
 locked_call =
     record wrong_call { table = record small_table { accounts = record small_account { locked = true } ∷ [] } }
@@ -143,7 +143,7 @@ pub record OfCounts : Type 0 where
   pub locked : RaisesCount locked_call → ⊥
   pub fails_twice : EachCallRaisesOnce (judged_all (wrong_call ∷ wrong_call ∷ [])) → ⊥
 
--- all of them
+-- All that this file says of grants and of what they send.
 pub record GrantsTellApart : Type 0 where
   pub grants : OfGrants
   pub sending : OfSending

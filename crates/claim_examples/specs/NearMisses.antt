@@ -91,14 +91,14 @@ pub record OfClearRuns : Type 0 where
 abbrev pub barred_again : Judging
 barred_again = record (judged_as judged.Barred judging) { at = 7; reply = Some 9 }
 
--- her NTLMv2 response to the challenge of the link, over a rest of 28 zeros
+-- ann's NTLMv2 response to the challenge of the link, over a rest of 28 zeros
 abbrev pub long_response : List ℕ
 long_response = proof_of (key_v2_of small_hash (97 ∷ 110 ∷ 110 ∷ []) []) small_challenge (replicate 28 0) ++ replicate 28 0
 
 abbrev pub long_taken : MessageTaken
 long_taken = with_response long_response
 
--- her response of extended session security, which answers the hashed challenge
+-- ann's response of extended session security, which answers the hashed challenge
 abbrev pub extended_taken : MessageTaken
 extended_taken = taken_as extended_message extended_flags message
 
@@ -109,8 +109,8 @@ abbrev pub untold : Book → Book
 untold book = record book { told = [] }
 
 -- Accepting only what is granted: also by an NTLMv2 response, by one to a hashed challenge, and where the call was
--- barred at another step; not where the message came on another link than the one that is let in, nor where that is so
--- of a second outcome.
+-- barred at another step; not where the message came on another link than the one that is let in, nor where a second
+-- outcome lets in on another link.
 pub record OfAcceptingOnly : Type 0 where
   pub meets_long : AcceptsOnlyGranted (small_run (taking long_taken))
   pub meets_extended : AcceptsOnlyGranted (small_run (taking extended_taken))
@@ -222,7 +222,7 @@ abbrev pub passed_for : Mark → Bool → Past
 passed_for mark clash =
     small_run (record blank { sent = sent_at 0 mark ∷ []; judged = record (on_channel 0) { source = InUnit 0 } ∷ []; clash = clash })
 
--- and the call was handed on
+-- a call that was handed on, in a unit of that mark
 abbrev pub handed_for : Mark → Past
 handed_for mark =
     small_run (record blank { sent = sent_at 0 mark ∷ []; judged = record (judged_as judged.Forwarded (on_channel 0)) { source = InUnit 0 } ∷ [] })
@@ -271,8 +271,9 @@ waiting_state = record small_world.state {
   };
 }
 
--- The unit that answers such a call goes back on its link, once the controller doesn't wait for it any more: it is the
--- reply to that call, on its channel. No unit is that while it waits, nor on another link or in the other direction.
+-- The unit that answers a call which was handed on goes back on the link on which the call came, once the controller
+-- doesn't wait for it any more: it is the reply to that call, on its channel. No unit is that while it waits, nor on
+-- another link or in the other direction.
 pub record OfHandingOn : Type 0 where
   pub reply : beside_mark (handed_call ∷ []) small_world.state (unit_of_link 3 true) ≡ ReplyTo small_name 3 7
   pub waits : beside_mark (handed_call ∷ []) waiting_state (unit_of_link 3 true) ≡ Plain
@@ -435,7 +436,7 @@ with_client c made =
     (record small_world { state = record small_world.state { ends = record small_world.state.ends { clients = c ∷ [] } } })
     (record blank { made = made })
 
--- it keeps a key on link 3
+-- what a client keeps that has a key on link 3
 abbrev pub kept_terms : Terms
 kept_terms = record { key = 1 ∷ []; receive = 5840; session = None }
 
@@ -485,7 +486,7 @@ pub record OfTelling : Type 0 where
 abbrev pub judged_by : AccountTable → Judging
 judged_by table = record judging { table = table; how = Some judged.NoChannel }
 
--- another count of bad passwords
+-- the small table with another count of bad passwords
 abbrev pub locking_table : AccountTable
 locking_table = record small_table { accounts = record small_account { bad_count = 5 } ∷ [] }
 

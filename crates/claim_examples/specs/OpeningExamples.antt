@@ -24,7 +24,7 @@ accepted_elsewhere = record small_accepted { channel = record small_name { compu
 abbrev pub kept_after : List ChannelAccepted → Past
 kept_after accepted = run_open (record blank { accepted = accepted }) None small_seed small_seed
 
--- it keeps none, and this challenge of the server waits for these computers
+-- a controller keeps no channel, and this challenge of the server waits for these computers
 abbrev pub waiting_for : List ℕ → List (List ℕ) → Computers
 waiting_for server [] = record { pending = []; channels = []; sessions = [] }
 waiting_for server (name ∷ names) =
@@ -59,7 +59,7 @@ pub record OfOpenings : Type 0 where
 
 -- ---- its reply
 
--- its call came in unit 0 after four moves, and unit 1 carries the reply
+-- an opening whose call came in unit 0 after four moves, and whose reply unit 1 carries
 abbrev pub answered_opening : ChannelAccepted
 answered_opening = record small_accepted { at = 4; source = InUnit 0; reply = Some 1 }
 
@@ -68,10 +68,10 @@ abbrev pub marked_as : Mark → ChannelAccepted → Past
 marked_as mark one =
     small_run (record blank { sent = sent_at 3 (Opening small_name 2) ∷ sent_at 4 mark ∷ []; accepted = one ∷ [] })
 
--- The reply to an opening is marked so: not where its mark is none, or has another number or unit, nor where no unit
--- carries it, or one that was sent at another step. Nothing is asked of an opening that came from outside. A unit with
--- such a mark is that reply: not where the mark has another number, nor where another unit carries the reply. Without a
--- clash the call came in a unit that was made for the channel.
+-- The reply to an opening is marked as that: not where its mark is none, or has another number or unit, nor where no
+-- unit carries it, or one that was sent at another step. Nothing is asked of an opening that came from outside. A unit
+-- with such a mark is that reply: not where the mark has another number, nor where another unit carries the reply.
+-- Without a clash the call came in a unit that was made for the channel.
 pub record OfOpenedReplies : Type 0 where
   pub meets : RepliesAnswerOpenings (marked_as (Opened small_name 2 0) answered_opening)
   pub meets_marks : OpeningsAreMarked (marked_as (Opened small_name 2 0) answered_opening)

@@ -35,21 +35,21 @@ reply_run bytes mark j =
     })
     (record blank { sent = sent_at 6 mark ∷ []; judged = j ∷ [] })
 
--- her call came in unit 7, and has its reply in that unit
+-- ann's call came in unit 7, and its reply goes out in unit 0
 abbrev pub replied_call : Judging
 replied_call = record next_call { reply = Some 0 }
 
 abbrev pub reply_mark : Mark
 reply_mark = ReplyTo small_name 3 7
 
--- Replies: of her call on its channel, and of a unit without such a mark.
+-- Replies: to ann's call on its channel, and of a unit that is marked as no reply.
 pub record OfReplies : Type 0 where
   pub meets : RepliesCarryTheirJudgement (reply_run small_reply reply_mark replied_call)
   pub plain : RepliesCarryTheirJudgement (reply_run [] Plain replied_call)
   -- not where nothing is in the unit, or the call was barred
   pub fails_empty : RepliesCarryTheirJudgement (reply_run [] reply_mark replied_call) → ⊥
   pub fails_barred : RepliesCarryTheirJudgement (reply_run small_reply reply_mark (judged_as judged.Barred replied_call)) → ⊥
-  -- it isn't met where the mark names another number, unit or channel, or the call has its reply in another unit
+  -- the claim isn't met where the mark names another number, unit or channel, or the call has its reply in another unit
   pub fails_number : RepliesCarryTheirJudgement (reply_run small_reply (ReplyTo small_name 4 7) replied_call) → ⊥
   pub fails_unit : RepliesCarryTheirJudgement (reply_run small_reply (ReplyTo small_name 3 6) replied_call) → ⊥
   pub fails_channel :

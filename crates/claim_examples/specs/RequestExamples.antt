@@ -17,7 +17,7 @@ use Rattle.claim_examples.specs.OpeningExamples.{answered_opening}
 abbrev pub made_for : Mark → Mark → Past
 made_for first second = small_run (record blank { sent = sent_at 3 first ∷ sent_at 4 second ∷ [] })
 
--- another channel of that computer
+-- another channel of the same computer, by another challenge
 abbrev pub other_name : ChannelIdentity
 other_name = record small_name { client = replicate 8 9 }
 

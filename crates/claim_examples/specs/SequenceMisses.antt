@@ -83,7 +83,7 @@ abbrev pub run_by : Book → Option Pending → SecureChannelState → List ℕ 
 run_by book turn o name c =
     run_in (world_by (small_member ∷ []) (member_on turn o ∷ []) (controller_on name c ∷ [])) book
 
--- both ends of the channel with these seeds
+-- a run in which both ends keep the channel, with these seeds
 abbrev pub run_whole : Book → Option Pending → List ℕ → List ℕ → Past
 run_whole book turn seed other = run_by book turn (kept_whole seed) (codes "FILE1") (kept_whole other)
 

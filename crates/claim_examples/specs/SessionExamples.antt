@@ -53,11 +53,11 @@ hash_logon hash = record {
 abbrev pub hash_call : List ℕ → Judging
 hash_call hash = record next_call { asked = Interactive (hash_logon hash) }
 
--- her hash, but for its first byte
+-- ann's hash, but for its first byte
 abbrev pub other_hash : List ℕ
 other_hash = 8 ∷ replicate 15 7
 
--- so many sessions stood then
+-- the call was judged while `count` sessions stood
 abbrev pub with_sessions : ℕ → Judging → Judging
 with_sessions count j = record j { sessions = replicate count (session_of (codes "FILE1") [] 0) }
 
@@ -92,11 +92,11 @@ world_with sessions =
 abbrev pub run_with : List Session → List Judging → Past
 run_with sessions calls = run_in (world_with sessions) (record blank { judged = calls })
 
--- her session
+-- ann's session
 abbrev pub ann_session : List Session
 ann_session = session_of (codes "FILE1") (info_asked message).user 5 ∷ []
 
--- her logon, which came at the move behind the sixth; and one that was barred later, by these sessions
+-- ann's logon, which came at the move behind the sixth; and one that was barred later, by these sessions
 abbrev pub ann_call : Judging
 ann_call = hash_call small_hash
 
@@ -107,7 +107,7 @@ barred_by sessions = record (judged_as judged.Barred ann_call) { at = 8; session
 abbrev pub renewed_by : ℕ → List ControllerRenewed
 renewed_by moves = record { moves = moves; controller = 0 } ∷ []
 
--- her logoff, by these sessions
+-- ann's logoff, judged by these sessions
 abbrev pub logoff_call : List Session → Judging
 logoff_call sessions = record ann_call { at = 8; asked = Logoff (hash_logon small_hash); sessions = sessions }
 
@@ -133,7 +133,7 @@ pub record OfSessions : Type 0 where
 
 -- ---- which statuses are told
 
--- FILE1 sets its secret anew, by such a table; ann's has no account of it
+-- FILE1's change of its secret, judged by a table; ann's own table has no account of FILE1
 abbrev pub set_call : AccountTable → Judging
 set_call table = record ann_call {
   at = 8;

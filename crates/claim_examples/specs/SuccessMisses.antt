@@ -46,7 +46,7 @@ run_ended ended =
       };
     }
 
--- another client dialled the member too, and this was told
+-- a run in which another client dialled the member too, and this was told
 abbrev pub run_of_two : List OutcomeTold → Past
 run_of_two told =
     let one : Past = ann_run 16 told in
@@ -78,7 +78,7 @@ pub record OfSucceeding : Type 0 where
 abbrev pub asking_plan : ℕ → AuthKind → ℕ → Plan
 asking_plan level auth echo = record ann_plan { clients = record (able_client small_hash) { level = level; auth = auth; echo = echo } ∷ [] }
 
--- another controller has a member of the same name
+-- a plan in which another controller has a member of the same name
 abbrev pub beside_plan : Plan
 beside_plan = record {
   tables = able_table ann_accounts ∷ able_table [] ∷ [];
@@ -111,7 +111,7 @@ pub record OfWhoCan : Type 0 where
 abbrev pub two_lost : Plan
 two_lost = record lost_plan { clients = lost_client ∷ lost_client ∷ [] }
 
--- both start, time passes between, and moves find nothing to do
+-- both clients start, time passes between, and moves find nothing to do
 abbrev pub two_moves : List Move
 two_moves = move.Start 0 ∷ move.Connect ∷ move.Tick 5 ∷ move.Start 3 ∷ move.Connect ∷ move.Onward ∷ []
 

@@ -5,7 +5,7 @@ use Rattle.domain_world.specs.Headline.{IsClaimed}
 use Rattle.claim_examples.specs.ClaimExamples.{OfAcceptingAll, OfAcceptingOnly, OfAll, OfChallenges, OfClashes, OfCredentials, OfKeys, OfReplays, OfSequences, OfShortResponses, OfTakenAnswers, OfWraps}
 use Rattle.claim_examples.specs.CompletenessExamples.{OfCompleteness, OfOwnMembers, OfSuccess}
 
--- all of them
+-- What this file says of all claims.
 pub record ClaimsTellApart : Type 0 where
   pub wraps : OfWraps
   pub clashes : OfClashes

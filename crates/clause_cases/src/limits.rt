@@ -312,7 +312,7 @@ fn what_came_before_a_limit_is_given(rt: HostRuntime) -> io::Result<()> {
 #[test]
 fn a_link_that_sends_without_end_keeps_none_waiting(rt: HostRuntime) -> io::Result<()> {
     assert!(rt; serves_others(&rt, b"more")?);
-    // As much as is read at once.
+    // A link that sends as much as is read at once keeps none waiting either.
     assert!(rt; serves_others(&rt, &[7; 5840])?);
     Ok(())
 }
@@ -341,7 +341,7 @@ fn want_of_descriptors_keeps_one_link_waiting(rt: HostRuntime) -> io::Result<()>
         }
         assert_eq!(rt; says.refused.get(), 1);
         assert!(rt; dial_fails(&mut port, address.as_bytes()));
-        // Then it is accepted, before the other link was silent for too long.
+        // The second peer is accepted before the first link was silent for too long.
         says.want.set(None);
         says.run(1898);
         assert!(rt; is_opened(&port.next(None), 2));

@@ -101,7 +101,7 @@ fn a_peer_that_ends_is_a_closed_link(rt: HostRuntime) -> io::Result<()> {
     let mut port = SocketPort::new(rt.alloc(), &rt);
     assert_eq!(rt; port.listen(address.as_bytes()), Ok(()));
 
-    // It ends in the middle of a unit.
+    // A peer ends in the middle of a unit.
     let mut peer = TcpStream::connect(&rt, address.as_str())?;
     peer.write_all(b"\x05\x00\x0b")?;
     drop(peer);
@@ -109,7 +109,7 @@ fn a_peer_that_ends_is_a_closed_link(rt: HostRuntime) -> io::Result<()> {
     assert!(rt; is_bytes(&port.next(None), 1, b"\x05\x00\x0b"));
     assert!(rt; is_closed(&port.next(None), 1));
 
-    // It sends no more, and reads on.
+    // A peer sends no more, and reads on.
     let mut peer = TcpStream::connect(&rt, address.as_str())?;
     peer.write_all(b"asked")?;
     peer.shutdown(Shutdown::Write)?;
@@ -122,14 +122,14 @@ fn a_peer_that_ends_is_a_closed_link(rt: HostRuntime) -> io::Result<()> {
         "answered"
     );
 
-    // It resets the link: bytes that it didn't read are left.
+    // A peer resets the link: bytes that it didn't read are left.
     let peer = TcpStream::connect(&rt, address.as_str())?;
     assert!(rt; is_opened(&port.next(None), 3));
     assert_eq!(rt; port.send(3, b"unread"), Ok(()));
     drop(peer);
     assert!(rt; is_closed(&port.next(None), 3));
 
-    // It sends nothing.
+    // A peer ends without having sent anything.
     drop(TcpStream::connect(&rt, address.as_str())?);
     assert!(rt; is_opened(&port.next(None), 4));
     assert!(rt; is_closed(&port.next(None), 4));
@@ -229,7 +229,7 @@ fn links_are_served_by_turns(rt: HostRuntime) -> io::Result<()> {
         assert!(rt; link != last);
         last = link;
     }
-    // One of them ends in the middle of a unit, and the other goes on.
+    // The first peer ends in the middle of a unit, and the second one goes on.
     first.write_all(b"\x05\x00\x0b")?;
     drop(first);
     assert!(rt; is_bytes(&port.next(None), 1, b"\x05\x00\x0b"));
@@ -296,7 +296,7 @@ fn what_was_sent_before_a_close_goes_out(rt: HostRuntime) -> io::Result<()> {
     let _mute = TcpStream::connect(&rt, address.as_str())?;
     assert!(rt; is_opened(&port.next(None), 1));
     let taken = pieces_taken(&mut port, 1);
-    // As much for another peer, but for half of what may wait in the port.
+    // Another peer is sent as much, but for half of what may wait in the port.
     let mut peer = TcpStream::connect(&rt, address.as_str())?;
     peer.set_nonblocking(true)?;
     assert!(rt; is_opened(&port.next(None), 2));

@@ -137,8 +137,8 @@ abbrev pub PassesOnce : Judging → List Judging → Type 0
 PassesOnce j judgings =
     AllByRecursion (λ (other : Judging). has_passed other.how && same_unit (unit_in other.source) (unit_in j.source) ≡ true → other.at ≡ j.at) judgings
 
--- Its controller's answer: the member took an answer for the message, of the controller of its plan, and the call
--- passed at this step and at no other.
+-- The member took an answer for the message, of the controller of its plan, and the call passed at this step and at no
+-- other.
 pub record IsItsControllersAnswer (past : Past) (message : MessageTaken) (j : Judging) : Type 0 where
   pub taken : taken_answer message past.book.judged ≡ Some j
   pub controller : HasController (slice_get past.plan.members message.member) past.world.state.ends j.controller
@@ -151,8 +151,8 @@ pub record IsGrantedBy (message : MessageTaken) (j : Judging) : Type 0 where
   pub may : MayLogOn j.table (info_asked message) j.moment
   pub verifies : ResponseVerifies j.table (info_asked message)
 
--- That link's unused challenge: it was drawn for the CHALLENGE of this link, no other draw gave it, and the link took
--- no other message.
+-- The challenge of a message is its link's own and unused: it was drawn for the CHALLENGE of this link, no other draw
+-- gave it, and the link took no other message.
 pub record IsUnusedChallenge (past : Past) (message : MessageTaken) (sent : ChallengeSent) : Type 0 where
   pub link : sent.link ≡ message.link
   pub challenge : sent.challenge ≡ message.logon.challenge
@@ -181,7 +181,7 @@ pub record IsAccepted (past : Past) (message : MessageTaken) : Type 0 where
   pub granted : IsGrantedBy message judging
   pub unused : OneOf (IsUnusedChallenge past message) past.book.challenges
 
--- Only so: a member lets somebody in on a link only where it took its controller's answer to the link's message, the
+-- A member lets somebody in on a link only where it took its controller's answer to the link's message, the
 -- account may log on, and the response is the written function of its stored hash and of the link's unused challenge.
 -- The link is one that this member accepted. It may do so for a link that has closed.
 abbrev pub AcceptsOnlyGranted : Past → Type 0
@@ -194,8 +194,8 @@ AcceptsOnlyGranted past =
 abbrev pub IsToldIn : MessageTaken → OutcomeTold → Type 0
 IsToldIn message told = (told.link ≡ message.link) × (told.member ≡ message.member) × (is_in told.outcome ≡ true)
 
--- Then always: where it took its controller's answer, the account may log on, and the response is that function, it
--- lets him in.
+-- A member lets in on a link wherever it took its controller's answer to the link's message, the account may log on,
+-- and the response is the written function of its stored hash and of the challenge that was asked.
 abbrev pub AcceptsAllGranted : Past → Type 0
 AcceptsAllGranted past =
     AllByRecursion (λ (message : MessageTaken). (j : Judging) → IsItsControllersAnswer past message j → IsGrantedBy message j →
@@ -237,7 +237,7 @@ pub record IsRightlyTold (told : JudgementTold) (j : Judging) : Type 0 where
   pub how : Some told.how ≡ j.how
   pub right : IsJudgedRight j
 
--- each of them is, of the call in its place
+-- each judgement that was told is that of the call in its place
 abbrev pub AreTheirJudgements : List JudgementTold → List Judging → Type 0
 AreTheirJudgements [] [] = Unit {0}
 AreTheirJudgements (told ∷ more) (j ∷ judgings) = IsRightlyTold told j × AreTheirJudgements more judgings
@@ -247,7 +247,7 @@ AreTheirJudgements _ _ = ⊥
 abbrev pub judgements_of_calls : List JudgementTold → List JudgementTold
 judgements_of_calls told = filter (λ (one : JudgementTold). judges_call one.how) told
 
--- each judgement of a call is, of the call in its place
+-- each judgement of a call that was told is that of the call in its place
 abbrev pub AreRightlyTold : List JudgementTold → List Judging → Type 0
 AreRightlyTold told judgings = AreTheirJudgements (judgements_of_calls told) judgings
 

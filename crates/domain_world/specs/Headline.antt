@@ -58,7 +58,7 @@ pub record Proved (plan : Plan) (moves : List Move) : Type 0 where
   -- which channels controllers accept and keep, and by which replies
   pub openings : NothingSeals plan → OpeningsAreInOrder (past plan moves)
   pub opened : NothingSeals plan → IsJudgedAlone plan moves → RepliesAnswerOpenings (past plan moves)
-  -- each reply that accepts an opening is to one of its channel, with its number, accepted at the step that sent it
+  -- each reply that accepts an opening answers one of its channel, with its number, accepted at the step that sent it
   pub opened_by : NothingSeals plan → IsJudgedAlone plan moves → IsSchedule plan moves → (past plan moves).book.clash ≡ false → RepliesAreToOpenings (past plan moves)
   -- openings and calls on a channel have different numbers
   pub numbers : NothingSeals plan → IsJudgedAlone plan moves → IsSchedule plan moves → RequestsHaveNumbers (past plan moves)
@@ -86,7 +86,7 @@ pub record Proved (plan : Plan) (moves : List Move) : Type 0 where
   -- what clients make, and keep
   pub made : NothingSeals plan → MessagesAreOfTheirClients (past plan moves)
   pub clients : NothingSeals plan → ClientsAreWrittenDown (past plan moves)
-  -- and each message that a client made is the answer of its plan to the CHALLENGE that is written down with it
+  -- each message that a client made is the answer of its plan to the CHALLENGE that is written down with it
   pub as_made : NothingSeals plan → IsSchedule plan moves → MessagesAreMade (past plan moves)
   -- a member accepts exactly what its controller granted, client and member hold one key, a call raises a count of bad
   -- passwords at most once, and a response of 24 bytes lets in once
@@ -127,6 +127,6 @@ pub record Proved (plan : Plan) (moves : List Move) : Type 0 where
 abbrev pub IsClaimed : Plan → List Move → Type 0
 IsClaimed plan moves = IsSchedule plan moves → Proved plan moves
 
--- It holds of the run that made a world from a plan, whatever the moves before, with these moves behind them.
+-- A claim holds of the run that made a world from a plan, whatever the moves before, with these moves behind them.
 abbrev pub OfItsRun : World → List Move → (Plan → List Move → Type 0) → Type 0
 OfItsRun old moves Holds = (plan : Plan) (earlier : List Move) → old ≡ run earlier (first_world plan) → Holds plan (earlier ++ moves)

@@ -136,7 +136,7 @@ with_forwards forwards b = record b { forwards = onto forwards b.forwards }
 
 -- ---- a call that was handed on is answered
 
--- it waits for the answer at its controller
+-- a call that was handed on waits for its answer at its controller
 abbrev pub waits_at : Option ControllerState → Forward → Bool
 waits_at None one = false
 waits_at (Some c) one = is_some (lookup same_place (one.trust, one.place) c.trusting.queues.forwarded)
@@ -144,8 +144,9 @@ waits_at (Some c) one = is_some (lookup same_place (one.trust, one.place) c.trus
 abbrev pub still_waits : State → Forward → Bool
 still_waits s one = waits_at (slice_get s.ends.controllers one.judging.controller) one
 
--- Its reply goes back on the link on which it came, once it doesn't wait any more, and is made for the channel on which
--- it passed. Beside the link on which an end hears something, a controller sends no other unit back.
+-- The reply to a call that was handed on goes back on the link on which the call came, once the call waits no more, and
+-- is made for the channel on which the call passed. Beside the link on which an end hears something, a controller sends
+-- no other unit back.
 abbrev pub forward_mark : Option ChannelIdentity → Forward → Mark
 forward_mark None one = Plain
 forward_mark (Some channel) one = reply_mark (unit_in one.judging.source) channel one.judging.number
@@ -373,7 +374,7 @@ note_unit None number link at s b = b
 note_unit (Some unit) number link at s b =
     note_pieces (record { at = at; source = InUnit number; link = link; back = unit.back }) (pieces_of unit.bytes) s b
 
--- it counts as delivered then
+-- a unit is delivered, and counts as that then
 abbrev pub note_settled : ℕ → ℕ → ℕ → State → Book → Book
 note_settled number link at s b = note_unit (slice_get s.bag number) number link at s b
 
@@ -447,8 +448,8 @@ turns_by _ what after = []
 abbrev pub turns_in : Given → State → List ChannelTurn
 turns_in given after = flat_map (λ (one : EndId × Action). turns_by one.0 one.1 after) given
 
--- the other units that came into the bag were made for no channel, but for replies to calls that were handed on, where
--- a turn was lost
+-- The units beside those that have marks were made for no channel, but for replies to calls that were handed on, where
+-- a turn was lost.
 abbrev pub other_marks : List Forward → State → ℕ → List Mark
 other_marks forwards after marked = map (λ (unit : BagUnit). beside_mark forwards after unit) (drop marked after.bag)
 

@@ -23,8 +23,8 @@ use Rattle.domain_world.specs.Claims.Statuses.{StatusesAreTold}
 use Rattle.domain_world.specs.Claims.{AcceptsAllGranted, AcceptsOnlyGranted, IsClear, KeysAgree, ShortResponsesLetInOnce, TellsOfCallsAlone}
 use Rattle.domain_world.specs.Past.{past}
 
--- What is written down of such a run of a plan in which nothing seals is what is written down of the run of the plan
--- whose controllers ask nobody.
+-- What is written down of a run in which nothing seals and no call comes for a trusted domain is what is written down
+-- of the run of the plan whose controllers ask nobody.
 abbrev pub BooksAlone : Type 0
 BooksAlone = (plan : Plan) (moves : List Move) → NothingSeals plan → IsUnforwarded plan moves →
     (past (alone_plan plan) moves).book ≡ (past plan moves).book

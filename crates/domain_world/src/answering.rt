@@ -46,8 +46,8 @@ pub fn carried_calls_are_heard()
     ensures { CarriedCallsAreHeard }
 {}
 
-/// Two more follow from what a member reads in single units: what is told of an answer, and who is let in, is what the
-/// controller judged.
+/// Two premises of the claims on answers follow from what a member reads in single units: what is told of an answer,
+/// and who is let in, is what the controller judged.
 #[tactic(auto, using(crate::proofs::Accepting::Heard::ReadBackLaws::read_back))]
 pub fn outcomes_are_read_back()
     ensures { OutcomesAreReadBack }
@@ -61,7 +61,8 @@ pub fn runs_are_heard()
     ensures { RunsAreHeard }
 {}
 
-/// The last of them follows from what a client makes for a CHALLENGE and what a member takes.
+/// The premise that keys are found as they were made follows from what a client makes for a CHALLENGE and what a member
+/// takes.
 #[tactic(auto, using(crate::proofs::Messages::KeyLaws::keys_made))]
 pub fn keys_are_found_as_made()
     ensures { KeysAreFoundAsMade }

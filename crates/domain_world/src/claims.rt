@@ -22,15 +22,15 @@ ghost use Rattle.domain_world.specs.Unforwarded.{BooksAlone, CarriesOver};
 /// the CHALLENGE is written down that goes out in the bind_ack. Where none is, a bind_nak goes out, or the link is
 /// closed. Where a CHALLENGE had been sent, the message is written down whose logon the member then keeps. Where none
 /// is, the link is closed, or the member tells that as many logons wait as may. What a unit draws is the challenges of
-/// its CHALLENGEs. So is what the step draws, but for one more at most, where it dials.
+/// its CHALLENGEs. What the step draws is those of its units, and one more at most, where it dials.
 #[tactic(auto, using(crate::proofs::Challenges::LeftOutLaws::members_leave))]
 pub fn members_leave_nothing_out()
     ensures { MembersLeaveNothingOut }
 {}
 
 /// In a world a link that a member dials to the address of its plan is accepted by the controller with whose number the
-/// member's channels are named, so that what `channels_are_named_alike` says of one step holds of the two ends of such
-/// a link.
+/// member's channels are named, so that what `channels_are_named_alike` says of one step holds of the two ends of that
+/// link.
 #[tactic(auto, using(crate::proofs::Calls::NamedLinkLaws::links_reach))]
 pub fn links_reach_the_named()
     ensures { LinksReachTheNamed }
@@ -112,7 +112,7 @@ pub fn what_is_not_handed_on_is_written_alike()
 {}
 
 /// A run of a plan that hands nothing on is one in which each call is judged by the controller that hears it: whatever
-/// is proved of the latter is proved of the former.
+/// is proved of runs of the second kind is proved of runs of the first.
 pub fn what_asks_nobody_is_judged_alone()
     ensures { (plan : Plan) (moves : List Move) → HandsNothingOn plan → IsJudgedAlone plan moves }
 {}

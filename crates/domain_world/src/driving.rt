@@ -52,7 +52,7 @@ pub fn drive(alloc: Global, world: &mut World, moves: &Moves) -> Result<Report, 
     requires given { All IsMove moves.now }
     ensures world { OnOk result (world.new ≡ run moves.now world.old) }
     ensures report { IfOk result (λ report. report ≡ report_of (run moves.now world.old)) }
-    // It answers `Stopped` exactly where a move wasn't made before, and a move that isn't made stops the world.
+    // `Stopped` is answered exactly where a move wasn't made before, and a move that isn't made stops the world.
     ensures stopped { (result ≡ Err WorldRefused.Stopped) ↔ IsTrue world.old.stopped }
     ensures stops { OnErr result (world.new.stopped ≡ true) }
     ensures goes_on { OnOk result (world.new.stopped ≡ false) }

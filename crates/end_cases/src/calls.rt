@@ -156,8 +156,8 @@ fn tell_action(alloc: Global, work: Work, name: &str) -> anyhow::Result<Option<W
     Ok(Some(tell(work, action)?))
 }
 
-/// So many sessions of a computer and a user are added, with logon ids from 0 on, of which those that there is room for
-/// stand: `COMPUTER/USER/COUNT`, behind the first part.
+/// Adds COUNT sessions of a computer and a user, with logon ids from 0 on, of which those that there is room for stand:
+/// `COMPUTER/USER/COUNT`, behind the first part.
 fn fill(alloc: Global, work: Work, parts: &[&str]) -> anyhow::Result<Option<Work>> {
     let computer = text_units(alloc, word(parts, 1))?;
     let user = text_units(alloc, word(parts, 2))?;

@@ -29,7 +29,7 @@ fn value_text(alloc: Global, words: &[&str]) -> anyhow::Result<String> {
     text(alloc, value.bytes())
 }
 
-/// Both names, a blank between them.
+/// The names of domain and computer, a blank between them.
 fn both_text(alloc: Global, domain: &[u8], computer: &[u8]) -> anyhow::Result<String> {
     let domain = text(alloc, domain)?;
     let computer = text(alloc, computer)?;
@@ -76,7 +76,7 @@ fn bind_text(alloc: Global, words: &[&str]) -> anyhow::Result<String> {
     bound_text(alloc, &interface, number(word(words, 2))?, &value)
 }
 
-/// Whether there are as few contexts as a bind with such a value has room for.
+/// Whether there are as few contexts as a bind with an auth value has room for.
 fn are_few(contexts: &Contexts) -> bool
     ensures { result ≡ true → length contexts.now ≤ 241 }
 {

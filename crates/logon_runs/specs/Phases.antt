@@ -434,7 +434,7 @@ pub record IsKnown (p : Arrival) : Type 0 where
   pub named : IsName p.name
   pub account_so : InRangeAccount p.account
 
--- it has the user's hash among those accounts, or those with which the logon began
+-- the controller has the user's hash among those accounts, or those with which the logon began
 pub record HasUserIn (p : Arrival) (table : AccountTable) : Type 0 where
   pub found : account_in table.accounts p.meeting.task.user ≡ Some p.account
   pub hash : p.account.hash ≡ p.meeting.task.hash
@@ -563,6 +563,6 @@ pub record PhasesGoOn : Type 0 where
   pub has_user : (p : Arrival) (s : State) (at : IsUnderWay p s) (what : Move) → HasUser p → MayLogOnAt p s → HasUserAt p s at.phase what
   -- something waits in each phase
   pub waits : (p : Arrival) (s : State) → IsUnderWay p s → s.dials ≡ [] → waiting s.bag ≡ [] → ⊥
-  -- once it is over, moves change nothing of it
+  -- once a logon is over, moves change nothing of it
   pub rests : (p : Arrival) (s : State) (what : Move) → IsStepOn what → IsOver p s → IsOver p (act s what).state
   pub rests_same : (p : Arrival) (s : State) (what : Move) → IsStepOn what → (over : IsOver p s) → (later : IsOver p (act s what).state) × (later.asked ≡ over.asked)

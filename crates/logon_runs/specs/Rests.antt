@@ -69,7 +69,7 @@ pub record HasOwnComputer (plan : Plan) (at : ℕ) (member : MemberPlan) (contro
 abbrev pub channel_account : AccountTable → List ℕ → Option Account
 channel_account table computer = option_and_then (slice_get table.accounts) (machine_in table.accounts (machine_name computer) workstation_channel computer)
 
--- its hash, where it is there, is the member's secret
+-- the hash of the account by which a member's channel is opened, where there is one, is the secret that it tries
 abbrev pub HasItsSecret : AccountTable → MemberPlan → Type 0
 HasItsSecret table member = (account : Account) → channel_account table member.computer ≡ Some account → account.hash ≡ tried_of member.secrets
 
@@ -151,7 +151,7 @@ pub record MemberRests (plan : Plan) (s : State) (at : ℕ) (member : MemberPlan
   pub fits : (controller : ℕ) (planned : AccountTable) → slice_get plan.tables controller ≡ Some planned → HasOwnName plan at member controller →
       FitsSecretAt s controller member secrets
 
--- it wasn't started, or has its outcome
+-- a client that wasn't started, or has its outcome
 pub record ClientRests (s : State) (at : ℕ) (task : ClientPlan) : Type 0 where
   pub client : ClientState
   pub rests : slice_get s.ends.clients at ≡ Some client
@@ -214,13 +214,13 @@ coming_at plan s rest client member controller can account machine =
       machine = machine;
     }
 
--- it starts so, whichever of the controller's accounts the user has, if he has one
+-- a logon starts from rest, whichever of the controller's accounts the user has, if he has one
 pub record HasCome (plan : Plan) (s : State) (rest : AtRest plan s) (client member controller : ℕ) (can : CanCome plan client member controller) (account : Account) (number : ℕ) : Type 0 where
   pub machine : Account
   pub known : IsKnown (coming_at plan s rest client member controller can account machine)
   pub under_way : IsUnderWay (coming_at plan s rest client member controller can account machine) (start number s).state
 
--- it starts so; the domain's name and the account's are those of the plan, and a user's hash is
+-- A logon starts from rest. The domain's name and the account's are those of the plan, and so is a user's hash.
 pub record HasBegun (plan : Plan) (s : State) (rest : AtRest plan s) (client member controller : ℕ) (can : CanBeGranted plan client member controller) (number : ℕ) : Type 0 where
   pub account : Account
   pub come : HasCome plan s rest client member controller can.come account number
@@ -240,7 +240,7 @@ pub record LogonsComeToRest : Type 0 where
       HasForms plan → InRangeAccount account → chosen_place number (length s.ends.clients) ≡ Some client → HasCome plan s rest client member controller can account number
   pub begins : (plan : Plan) (s : State) (rest : AtRest plan s) (client member controller : ℕ) (can : CanBeGranted plan client member controller) (number : ℕ) → IsPlan plan → HasForms plan →
       chosen_place number (length s.ends.clients) ≡ Some client → HasBegun plan s rest client member controller can number
-  -- once it has ended, granted or not, the world rests, where the others are as they were
+  -- once a logon has ended, granted or not, the world rests, where the others are as they were
   pub ends : (plan : Plan) (s : State) (rest : AtRest plan s) (client member controller : ℕ) (can : CanCome plan client member controller) (account machine : Account) (after : State) →
       OthersStay (three_of client member controller) s after → after.client_plans ≡ s.client_plans →
       HasEnded (coming_at plan s rest client member controller can account machine) after → AtRest plan after

@@ -99,7 +99,7 @@ pub fn logons_are_seen()
 {}
 
 /// The link of a turn is the next one, beside its client's: open at both sides once its dial is
-/// answered. The client's is as before, also once the turn's is closed.
+/// answered. The client's link stays as it is, also once the turn's is closed.
 #[tactic(auto, using(crate::proofs::Scenes::TwoLinkLaws::turns_have_links))]
 pub fn turns_have_links()
     ensures { TurnsHaveLinks }

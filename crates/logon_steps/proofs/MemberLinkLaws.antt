@@ -122,11 +122,11 @@ is_alone s one =
     ap (λ (next : Option Next). record s { next = next }) one
     ∙ ap (λ (next : Option Next). alone (tried_of_next next s.current)) (sym one)
 
--- it rests, and no turn was given a next secret yet
+-- a member that was just made rests, and no turn was given a next secret yet
 pub fresh_rests_keeping : (plan : MemberPlan) → fresh_member plan ≡ member_at (logons_resting plan (caller_of plan) None standing.Nothing 0 1) [] dialling.Nothing
 fresh_rests_keeping plan = refl
 
--- with one secret it rests as such a member does
+-- a member that was just made with one secret rests as one that isn't to change its secret
 pub fresh_rests : (plan : MemberPlan) → plan.secrets.next ≡ None →
     fresh_member plan ≡ member_at (logons_at_rest plan (caller_of plan) standing.Nothing 0 1) [] dialling.Nothing
 fresh_rests plan one =

@@ -50,7 +50,7 @@ pair_of client server = record { client = client; server = server }
 -- ---- laws
 
 pub record CallsAreAnswered : Type 0 where
-  -- both challenges wait, where the computer is known
+  -- behind a NetrServerReqChallenge both challenges wait, where the computer is known
   pub challenge : (caller : Caller) (client server : List ℕ) (line : Line) (talk : Talk) (name : List ℕ) (now : ℕ) (d : Desk) (left : List (List ℕ)) →
       knows_in d.table.accounts caller.computer ≡ true →
       by_call (served_call (challenge_call caller client)) line talk name now d (server ∷ left)

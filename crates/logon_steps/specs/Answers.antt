@@ -64,7 +64,7 @@ pub record AnswersAreAsked : Type 0 where
   -- the auth3 can be sent
   pub sends : (plan : MemberPlan) (task : ClientPlan) (challenge one two three : List ℕ) (now : ℕ) → CanLogOn task → HasShortNames plan → AreDraws one two three →
       IsSendable (auth3_for task (answer_for plan task challenge now (drawn_of one two three)).message)
-  -- it goes out, and the first call behind it
+  -- the answer to a CHALLENGE goes out, and the first call behind it
   pub goes : (plan : MemberPlan) (work : ClientWork) (challenge one two three : List ℕ) (link : ℕ) (sending : Sending) → CanLogOn work.task → HasShortNames plan →
       AreDraws one two three →
       let drawn : Drawn = drawn_of one two three in

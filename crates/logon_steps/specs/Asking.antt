@@ -57,7 +57,7 @@ at_rest_keeping caller how place number next = record (at_rest caller how place 
 -- ---- what it comes to
 
 pub record LogonsAreAsked : Type 0 where
-  -- it waits
+  -- a logon that is asked waits
   pub waits : (caller : Caller) (how : Standing) (info : NetworkInfo) (place number : ℕ) →
       ask_of (at_rest caller how place number) info ≡ record { answer = Ok place; state = asking caller how info place number None }
   -- a turn starts by what the channel needs: the two calls that open it, or the logon's own

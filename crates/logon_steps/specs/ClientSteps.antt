@@ -50,7 +50,7 @@ pub record ClientsStep : Type 0 where
   pub dialled : (task : ClientPlan) (link now : ℕ) (left : List (List ℕ)) →
       client.step_of (client_at task client_standing.Dialling) (event.Dialled link) now left
       ≡ whole_step left left (action.Send link (written (bind_for task.level task.auth)) ∷ []) (client_at task (on_link link client_phase.Bound))
-  -- its dial fails, or its link is closed
+  -- a client's dial fails, or its link is closed
   pub failed : (task : ClientPlan) (now : ℕ) (left : List (List ℕ)) →
       client.step_of (client_at task client_standing.Dialling) event.DialFailed now left
       ≡ whole_step left left [] (client_ended task (NoAnswer no_answer.DialFailed))

@@ -33,8 +33,8 @@ use Rattle.logon_steps.specs.Meeting.{flags_agreed}
 use Rattle.logon_steps.specs.MemberAnswers.{granting}
 use Rattle.logon_steps.specs.MemoCalls.{AreSessions}
 
--- as many bytes as the NT response of its kind has at least (MS-NLMP 3.3.1, 3.3.2): whether it is one of 24 bytes is
--- all that is asked of it here
+-- A response of as many bytes as the NT response of its kind has at least (MS-NLMP 3.3.1, 3.3.2): whether it has 24 is
+-- all that is asked of it here.
 abbrev pub response_told : AuthKind → List ℕ
 response_told V1 = replicate 24 0
 response_told V1Ess = replicate 24 0

@@ -82,13 +82,13 @@ IsNew link links = take_out same_number link links ≡ links
 -- ---- its steps
 
 pub record TurnsStep : Type 0 where
-  -- its dial is answered, whichever call it is for
+  -- a turn's dial is answered, whichever call the turn is for
   pub dialled : (plan : MemberPlan) (caller : Caller) (how : Standing) (info : NetworkInfo) (place next number link now : ℕ) (what : Step) (asked : List (ℕ × Logon))
       (links : List (ℕ × LinkState Talk)) (left : List (List ℕ)) → IsNew link links →
       step_of (member_at (logons_keeping plan caller how info place next number what asked) links (bind_waits number)) (event.Dialled link) now left
       ≡ whole_step left left (action.Send link (written (bind_of netlogon_syntax number)) ∷ [])
       (member_at (logons_keeping plan caller how info place next number what asked) links (on_turn link))
-  -- its bind is answered, and its call goes out
+  -- a turn's bind is answered, and its call goes out
   pub bound : (plan : MemberPlan) (caller : Caller) (how : Standing) (info : NetworkInfo) (place next number link now : ℕ) (c : Call) (asked : List (ℕ × Logon))
       (links : List (ℕ × LinkState Talk)) (left : List (List ℕ)) → number < 2 ^ 32 →
       step_of (member_at (logons_keeping plan caller how info place next number (step.Bind c) asked) links (on_turn link)) (event.Bytes link (written (turn_ack number))) now left

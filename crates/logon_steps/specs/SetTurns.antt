@@ -140,7 +140,7 @@ pub record SetTurnsStep : Type 0 where
       ≡ whole_step left left (action.Close link close.CallDone ∷ action.Dial plan.controller ∷ [])
       (member_at (logons_keeping (plan_with secrets plan) caller (standing.Open (after_call o (timestamp_of now))) info place (after next) next
       (step.Set (set_step.Bind (change_call caller o (timestamp_of now) new))) asked) links (bind_waits next))
-  -- it opens under the next one: that has become the current one, and its text is kept
+  -- the channel opens under the next secret, which has become the current one, and its text is kept
   pub opened_next : (plan : MemberPlan) (caller : Caller) (info : NetworkInfo) (place next number link now flags : ℕ) (client server current new : List ℕ) (asked : List (ℕ × Logon))
       (links : List (ℕ × LinkState Talk)) (left : List (List ℕ)) → number < 2 ^ 32 → (has_flag offered_flags flags && has_flag flags rc4_flag) ≡ true →
       let secrets : SecretsState = record { current = current; next = Some (record { secret = new; is_tried = true }) } in
@@ -152,7 +152,7 @@ pub record SetTurnsStep : Type 0 where
       ≡ whole_step left left (action.Keep (written_secrets (alone new)) ∷ action.Close link close.CallDone ∷ action.Dial plan.controller ∷ [])
       (member_at (logons_keeping (plan_with (alone new) plan) caller (standing.Open (after_call o (timestamp_of now))) info place (after next) next
       (step.Bind (logon_call caller o (timestamp_of now) (info_at place info))) asked) links (bind_waits next))
-  -- its bind is answered, and the call goes out
+  -- the bind of a turn that sets a secret is answered, and the call goes out
   pub bound : (plan : MemberPlan) (caller : Caller) (how : Standing) (info : NetworkInfo) (place next number link now : ℕ) (c : SetCall) (asked : List (ℕ × Logon))
       (links : List (ℕ × LinkState Talk)) (left : List (List ℕ)) → number < 2 ^ 32 →
       member_step_of (member_at (logons_keeping plan caller how info place next number (step.Set (set_step.Bind c)) asked) links (on_turn link)) (event.Bytes link (written (turn_ack number))) now left

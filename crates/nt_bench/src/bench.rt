@@ -71,7 +71,7 @@ impl Bench {
         })
     }
 
-    /// So many turns of an operation, and the end of what the last of them gives.
+    /// Runs an operation as many turns as asked for, and gives the end of what the last of them gives.
     pub fn perform(
         &mut self,
         alloc: Global,
@@ -109,7 +109,7 @@ impl Bench {
         }
     }
 
-    /// So many digests, or key streams.
+    /// Makes as many digests, or key streams, as `turns`.
     fn digest(&self, operation: Operation, turns: u32) -> Outcome {
         match operation {
             Operation::Md4Short => digests(&KEY, turns),
@@ -130,7 +130,7 @@ pub fn ramp<const N: usize>() -> [u8; N] {
     bytes
 }
 
-/// The last bytes, at most 16.
+/// The last 16 of these bytes, or all of fewer.
 pub fn end_of(bytes: &[u8]) -> Outcome {
     let from = bytes.len().saturating_sub(16);
     let mut end = ArrayVec::new();

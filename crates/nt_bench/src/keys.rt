@@ -74,7 +74,7 @@ impl Keys {
         })
     }
 
-    /// So many turns of an operation on keys.
+    /// Runs an operation on keys, as many turns as asked for.
     pub fn perform(&mut self, operation: Operation, turns: u32) -> anyhow::Result<Outcome> {
         match operation {
             Operation::DesBlock => Ok(self.blocks(turns)),
@@ -86,7 +86,7 @@ impl Keys {
         }
     }
 
-    /// So many blocks of the chain.
+    /// Makes as many blocks of the chain as asked for.
     fn blocks(&mut self, turns: u32) -> Outcome {
         for _ in 0..turns {
             self.block = self.schedule.block(self.block);

@@ -108,7 +108,7 @@ impl Logons {
         Ok(())
     }
 
-    /// So many turns of the channel, and what the member does at the end of the last.
+    /// Takes as many turns of the channel as asked for, and gives what the member does at the end of the last.
     fn last_turn(&mut self, alloc: Global, turns: u32) -> anyhow::Result<Actions> {
         let mut told = Actions::new(alloc);
         for _ in 0..turns {

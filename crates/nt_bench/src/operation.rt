@@ -29,15 +29,15 @@ pub enum Operation {
     VerifyV2,
     /// Reading an AUTHENTICATE message of 124 bytes.
     ReadAuthenticate,
-    /// The same message, lent.
+    /// Viewing the AUTHENTICATE message of 124 bytes, whose fields are lent.
     ViewAuthenticate,
-    /// The same without contracts, for comparison.
+    /// Viewing the AUTHENTICATE message by a function without contracts, for comparison.
     AuthenticatePlain,
     /// Reading a request of RPC with 1,024 stub bytes.
     ReadUnit,
-    /// The same request, lent.
+    /// Viewing the request with 1,024 stub bytes, whose stub is lent.
     ViewUnit,
-    /// The same without contracts, for comparison.
+    /// Viewing the request by a function without contracts, for comparison.
     ViewPlain,
     /// Reading the stub of a request to log on, with two responses of 24 bytes.
     ReadLogonCall,
@@ -60,7 +60,7 @@ pub enum Operation {
     DrillLong,
 }
 
-/// All of them, in the order in which they are printed.
+/// All operations, in the order in which they are printed.
 pub const OPERATIONS: [Operation; 27] = [
     Operation::Md4Short,
     Operation::Md4Long,

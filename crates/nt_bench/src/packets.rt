@@ -53,7 +53,7 @@ impl Packets {
         &self.logon
     }
 
-    /// So many turns of an operation on a message or a unit.
+    /// Runs an operation on a message or a unit, as many turns as asked for.
     pub fn perform(
         &self,
         alloc: Global,
@@ -90,7 +90,7 @@ fn read_messages(alloc: Global, bytes: &[u8], turns: u32) -> anyhow::Result<Outc
     Ok(end)
 }
 
-/// The same, lent.
+/// The end of the NT response of a message that is viewed `turns` times.
 fn view_messages(bytes: &[u8], turns: u32) -> anyhow::Result<Outcome> {
     let mut nt: &[u8] = &[];
     for _ in 0..turns {
@@ -102,7 +102,7 @@ fn view_messages(bytes: &[u8], turns: u32) -> anyhow::Result<Outcome> {
     Ok(end_of(nt))
 }
 
-/// The same by the view without contracts.
+/// The end of the NT response of a message that is viewed `turns` times without contracts.
 fn view_messages_plainly(bytes: &[u8], turns: u32) -> anyhow::Result<Outcome> {
     let mut nt: &[u8] = &[];
     for _ in 0..turns {
@@ -126,7 +126,7 @@ fn read_requests(alloc: Global, bytes: &[u8], turns: u32) -> anyhow::Result<Outc
     Ok(end)
 }
 
-/// The same, lent.
+/// The end of the stub of a request that is viewed `turns` times.
 fn view_requests(bytes: &[u8], turns: u32) -> anyhow::Result<Outcome> {
     let mut stub: &[u8] = &[];
     for _ in 0..turns {
@@ -146,7 +146,7 @@ fn stub_in(unit: UnitView<'_>) -> &[u8] {
     }
 }
 
-/// The same by the view without contracts.
+/// The end of the stub of a request that is viewed `turns` times without contracts.
 fn view_requests_plainly(bytes: &[u8], turns: u32) -> anyhow::Result<Outcome> {
     let mut stub: &[u8] = &[];
     for _ in 0..turns {

@@ -23,7 +23,7 @@ pub struct Sides {
 }
 
 impl Sides {
-    /// Both before their first unit.
+    /// Both sides of a session, before their first unit.
     pub fn new(exported: [u8; 16]) -> Sides {
         Sides {
             client: Session::new(exported, FLAGS, Side::Client),

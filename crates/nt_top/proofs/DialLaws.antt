@@ -77,7 +77,7 @@ by_link plan None before middle after left last steps first more are failed = (r
 by_link plan (Some link) before middle after left last steps first more are failed =
     let kept = answered plan link left last steps are in absurd cc
 
--- what happened at the port in such a run
+-- what happened at the port in a run that was begun by a dial
 pub tells : {S : Type 0} (machine : Machine S) (file : Option (List ℕ)) (first : List Action) (old last : S) (most : ℕ) (opened ended : Sight) (begun : Begun machine file first old last most opened ended) →
     Appends opened.story ended.story (begun.happened ++ (story_of begun.run.ran.steps ++ begun.run.stop))
 tells machine file first old last most opened ended begun =

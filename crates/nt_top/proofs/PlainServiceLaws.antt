@@ -89,7 +89,7 @@ module _ (table : AccountTable) (name : List ℕ) (file : Option (List ℕ)) (ad
   abbrev begun : List Happening → Sight → RunState State
   begun happened middle = run_state_at can_seal (made_events happened) middle
 
-  -- such a step, behind steps of one that can't seal, in what is told
+  -- a step that hears an opening which asks to seal, behind steps of one that can't seal, in what is told
   asked_at : (opened middle ran : Sight) (happened : List Happening) (steps : List Step) (last : RunState State) (later : List Happening) (moments_later : List ℕ) (drawn_later : List (List ℕ))
       (put put2 put3 : List ℕ) (writes writes2 writes3 : List Write) →
       Opens seed boot before opened (happening.Listened address ∷ []) → Performs [] [] happened → Shows opened middle happened [] [] put writes → AreSteps seal_machine (begun happened middle) steps last →

@@ -120,7 +120,7 @@ command_acts m role words came command port files out after clock chances exit i
       link_faults = same_count (m.link_faults port);
     }
 
--- what is proved of a command's run is so of the drill that the words ask for
+-- what is proved of a command's run holds of the run of the drill that the words ask for
 pub command_proved : (role : Role) (words : List (List ℕ)) (came : Result Job WordsRefused) (command : Command) (exit : Exit) → came ≡ Ok (jobs.Command command) →
     UpToMemory refusals.Memory came (job_of role words) → (exit ≢ NoMemory → IsProvedOf command) → (drills : AskedDrill role words) → exit ≢ NoMemory →
     IsProvedDrill drills.number drills.count

@@ -147,13 +147,13 @@ bare_none openings = record { channels = refl; links = refl; asked = refl }
 abbrev no_kept : ℕ → ChannelSeals
 no_kept openings = record { openings = openings; kept = [] }
 
--- such an end never seals
+-- a controller that offers its plain flags alone never grants secure RPC
 never_secure : (flags : ℕ) → is_secure (granted_of supported_flags flags) ≡ false
 never_secure flags =
     let none : bit_at (bit_and flags supported_flags) 30 ≡ 0 = bit_at_and flags supported_flags 30 ∙ omega arith in
     ap (λ (n : ℕ). n == flag) (and_pow (bit_and flags supported_flags) 30 ∙ ap (λ (b : ℕ). b * flag) none)
 
--- an opening that doesn't offer secure RPC leaves it so
+-- an opening that doesn't offer secure RPC leaves nothing kept to seal
 opened_bare : (found : Result SecureChannelState ℕ) (c : AuthCall) (n : ℕ) → has_flag c.flags secure_rpc_flag ≡ false →
     (openings : ℕ) × (seals_opened found secure_flags c (no_kept n) ≡ no_kept openings)
 opened_bare (Err status) c n off = (n, refl)

@@ -36,7 +36,7 @@ abbrev pub TellsRun : ClientPlan → Sight → Sight → List Step → RunState 
 TellsRun plan before after steps last later moments_later =
     TellsBegun client_machine (first_actions plan) (client_that_dials plan) [] before after steps last later moments_later
 
--- It tells that the client ran to its end, with that outcome or none.
+-- The outside tells that the client ran to its end, with that outcome or none.
 pub record ComesTo (plan : ClientPlan) (before after : Sight) (outcome : Option ClientOutcome) : Type 0 where
   pub state : State
   pub left : List (List ℕ)
@@ -46,7 +46,7 @@ pub record ComesTo (plan : ClientPlan) (before after : Sight) (outcome : Option 
   pub closes : Closes client_machine (rest_at state left) (asked_by steps) most_answers stop
   pub outcome_is : state.outcome ≡ outcome
 
--- It tells that the client came to a step that draws more challenges than were left.
+-- The outside tells that the client came to a step that draws more challenges than were left.
 pub record ComesToSpent (plan : ClientPlan) (before after : Sight) : Type 0 where
   pub last : RunState State
   pub steps : List Step
@@ -97,7 +97,7 @@ pub record IsIn (plan : ClientPlan) (seed : List ℕ) (boot : ℕ) (before after
   pub ran : RanTo plan seed boot before after (Some (outcomes.In name key echoed))
   pub put : Appends before.taken after.taken (in_lines name echoed)
 
--- it has no answer for that cause, or no outcome at all
+-- a client has no answer for that cause, or no outcome at all
 pub record HasNoAnswer (plan : ClientPlan) (seed : List ℕ) (boot : ℕ) (before after : Sight) (cause : NoAnswerCause) : Type 0 where
   pub outcome : Option ClientOutcome
   pub ran : RanTo plan seed boot before after outcome
@@ -140,12 +140,12 @@ is_gone (event.Closed link) (Some own) = link == own
 is_gone (event.Opened link) (Some own) = link == own
 is_gone _ _ = false
 
--- the port gave such an event
+-- the port gave an event which shows that the link is gone that was waited for
 abbrev pub tells_gone : Happening → Bool
 tells_gone (happening.Given what want) = is_gone what want
 tells_gone _ = false
 
--- it gave `Stop`
+-- the port gave `Stop`
 abbrev pub gives_stop : Happening → Bool
 gives_stop (happening.Given event.Stop want) = true
 gives_stop _ = false

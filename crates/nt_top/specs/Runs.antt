@@ -89,8 +89,8 @@ pub record Acts {P F S C Q : Type 0} (m : Meanings P F S C Q) (role : Role) (ask
   -- A domain controller or a member server is served, and a logon client logs on, or on and off at a workstation, by
   -- what the words and the files say, or the words are refused.
   pub service : uses_port role asked ≡ true → ServiceRuns role asked (shelf_in m old) (shelf_in m new) (sight_in m old) (sight_in m new) exit
-  -- What the other commands do is told by their words: the exit is that of what the words come to, and what is put is
-  -- told by it.
+  -- What `check`, `show` and `drill` do, and a line of no command, is told by the words: the exit is that of what the
+  -- words come to, and what is put is told by it.
   pub ends : ActsByWords role asked → Ends (answer_of role asked) (put_in m old new) exit
   -- What is seen in the words without memory comes whether there is memory or not.
   pub at_once : IfSome (exit_at_once role asked) (λ due. exit ≡ due)
@@ -101,10 +101,11 @@ pub record Acts {P F S C Q : Type 0} (m : Meanings P F S C Q) (role : Role) (ask
   pub file_cause : exit ≡ FileFault → Rose (m.file_faults old.files) (m.file_faults new.files)
   pub port_cause : exit ≡ PortFault → Rose (m.port_faults old.port) (m.port_faults new.port)
   pub sink_cause : exit ≡ SinkFault → Rose (m.sink_faults old.out) (m.sink_faults new.out)
-  -- Of the other commands words that come to an exit alone leave the sink as it was, and so does want of memory.
+  -- Of `check`, `show` and `drill` words that come to an exit alone leave the sink as it was, and so does want of
+  -- memory.
   pub untouched : ActsByWords role asked → (due : Exit) → answer_of role asked ≡ Err due → new.out ≡ old.out
   pub memory : ActsByWords role asked → exit ≡ NoMemory → new.out ≡ old.out
-  -- They leave port, files, clock and challenges as they were.
+  -- `check`, `show` and `drill` leave port, files, clock and challenges as they were.
   pub port : ActsByWords role asked → new.port ≡ old.port
   pub files : ActsByWords role asked → new.files ≡ old.files
   pub clock : ActsByWords role asked → new.clock ≡ old.clock
@@ -190,11 +191,11 @@ untold count = None
 abbrev pub count_of : ℕ → ℕ
 count_of count = count
 
--- There are words, or arguments that are none, with which a program reported so, over a standard output and a standard
--- error that hadn't failed yet.
+-- There are words, or arguments that are no words, of which a program's run and status are those of `Reports`, over a
+-- standard output and a standard error that hadn't failed yet.
 pub record Starts {P F C Q : Type 0} (m : Meanings P F ℕ C Q) (role : Role) (old new : ℕ → Outside P F ℕ C Q) (status : ℕ) : Type 0 where
   pub asked : Result (List (List ℕ)) Exit
-  -- there are none only where the arguments are no words, or for want of memory
+  -- no words are there only where the program's arguments are none, or for want of memory
   pub none : IfErr asked (λ exit. Comes (BadWords 0) exit)
   pub out_faults : ℕ
   pub error_faults : ℕ

@@ -47,7 +47,7 @@ IsLeft due before after exit = (exit ≡ due) × (after ≡ before)
 abbrev pub MayServe : {S : Type 0} → Machine S → Option (List ℕ) → List Action → S → List ℕ → List ℕ → ℕ → ℕ → Sight → Sight → Exit → Type 0
 MayServe machine file first old address seed boot most before after exit = IsLeft NoMemory before after exit ⊎ ServesTo machine file first old address seed boot most before after exit
 
--- it served to its end, the challenges were spent, or memory ran out
+-- a service that served to its end, spent the challenges, or ran out of memory
 abbrev pub IsServed : Exit → Type 0
 IsServed Done = Unit {0}
 IsServed Spent = Unit {0}

@@ -20,7 +20,7 @@ abbrev pub TellsService : {S : Type 0} → Machine S → List Action → S → L
 TellsService machine first old address before after steps last later moments_later =
     TellsBegun machine first old (happening.Listened address ∷ []) before after steps last later moments_later
 
--- It tells that the end ran to where `Stop` was given, or as many events as are taken.
+-- The outside tells that the end ran to where `Stop` was given, or as many events as are taken.
 pub record TellsEnd {S : Type 0} (machine : Machine S) (first : List Action) (old : S) (address : List ℕ) (most : ℕ) (before after : Sight) : Type 0 where
   pub state : S
   pub left : List (List ℕ)
@@ -29,7 +29,7 @@ pub record TellsEnd {S : Type 0} (machine : Machine S) (first : List Action) (ol
   pub tells : TellsService machine first old address before after steps (rest_at state left) stop []
   pub closes : Closes machine (rest_at state left) (asked_by steps) most stop
 
--- It tells that the end came to a step that draws more challenges than were left.
+-- The outside tells that the end came to a step that draws more challenges than were left.
 pub record TellsSpent {S : Type 0} (machine : Machine S) (first : List Action) (old : S) (address : List ℕ) (before after : Sight) : Type 0 where
   pub last : RunState S
   pub steps : List Step

@@ -143,7 +143,8 @@ pub record ServiceRuns (role : Role) (asked : List (List ℕ)) (shelf shelf_afte
 
 -- ---- where words and files are of their forms
 
--- The words ask for such a command and are of its form, and the files that they name are told and are of theirs.
+-- The words ask for a command that uses the port and are of its form, and the files that they name are told and are of
+-- theirs.
 pub record IsServiceOfForm (role : Role) (asked : List (List ℕ)) (contents : Option (List (List ℕ × List ℕ))) : Type 0 where
   pub uses : uses_port role asked ≡ true
   pub service : Service
@@ -162,8 +163,8 @@ IsServedBy (setups.Station job files) exit = IsAnswered exit
 
 -- ---- refused files in their own terms
 
--- The words ask for such a command and are of its form, what files hold is told, and it comes to that refusal: of the
--- first file that isn't there, is too long or isn't of its form.
+-- The words ask for a command that uses the port and are of its form, what files hold is told, and it comes to that
+-- refusal: of the first file that isn't there, is too long or isn't of its form.
 pub record IsBadOfFiles (role : Role) (asked : List (List ℕ)) (contents : Option (List (List ℕ × List ℕ))) (refused : FilesRefused) : Type 0 where
   pub uses : uses_port role asked ≡ true
   pub service : Service

@@ -41,7 +41,7 @@ abbrev pub TellsStation : StationPlan → Sight → Sight → List Step → RunS
 TellsStation plan before after steps last later moments_later =
     TellsBegun station_machine (station_dials plan) (dialling_station plan) [] before after steps last later moments_later
 
--- It tells that the station ran to its end, with that outcome or none.
+-- The outside tells that the station ran to its end, with that outcome or none.
 pub record StationComesTo (plan : StationPlan) (before after : Sight) (outcome : Option StationOutcome) : Type 0 where
   pub state : StationState
   pub left : List (List ℕ)
@@ -51,7 +51,7 @@ pub record StationComesTo (plan : StationPlan) (before after : Sight) (outcome :
   pub closes : Closes station_machine (rest_at state left) (asked_by steps) most_answers stop
   pub outcome_is : state.outcome ≡ outcome
 
--- It tells that the station came to a step that draws more challenges than were left.
+-- The outside tells that the station came to a step that draws more challenges than were left.
 pub record StationComesToSpent (plan : StationPlan) (before after : Sight) : Type 0 where
   pub last : RunState StationState
   pub steps : List Step

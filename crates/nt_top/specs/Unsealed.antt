@@ -88,8 +88,8 @@ pub record ComesToAsk (start : RunState State) (steps : List Step) : Type 0 wher
   pub chooses : Chooses trust_machine at.state at.queue step waiting
   pub asks : asks_in at.state step.event ≡ true
 
--- A run from where nothing is sealed is the same run of one that can't seal, and nothing is sealed at its end; or such
--- an opening is heard in it.
+-- A run from where nothing is sealed is the same run of one that can't seal, and nothing is sealed at its end; or an
+-- opening that offers secure RPC is heard in it.
 pub record RunsStayPlain : Type 0 where
   pub run : (start last : RunState State) (steps : List Step) → SealsNothing start.state.trusting.sealing →
       AreSteps seal_machine start steps last →

@@ -35,7 +35,7 @@ pub(crate) fn check(
     judge(alloc, &hash, challenge, &bytes)
 }
 
-/// What is left once word 3 is bytes: they are to be a message, and its response is judged.
+/// Judges the response of the message that word 3 holds, once that word is bytes: they are to be an AUTHENTICATE.
 #[tactic(auto, unfolding(crate::specs::Check::judged))]
 fn judge(alloc: Global, hash: &[u8; 16], challenge: [u8; 8], bytes: &[u8]) -> Result<Answer, Exit>
     ensures { UpToMemory Exit.NoMemory result (judged hash.now challenge bytes.now) }

@@ -56,8 +56,8 @@ pub fn runs_that_nobody_seals_stay_plain()
 {}
 
 /// The service of a controller that can seal is that of one that can't, to the same exit, unless what the outside tells
-/// has an opening that offers secure RPC: then it is so up to that opening. So what is proved of controllers that can't
-/// seal is so of the program where nobody asks for sealing.
+/// has an opening that offers secure RPC: then it is that up to the opening. What is proved of controllers that can't
+/// seal holds of the program therefore where nobody asks for sealing.
 pub fn services_that_nobody_seals_stay_plain()
     ensures { ServicesStayPlain }
 {}

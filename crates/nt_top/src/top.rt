@@ -26,15 +26,15 @@ use std::alloc::Global;
 /// A domain controller and a member server have `serve`: the files are read and judged, the challenges are started, the
 /// port listens, and the end is served, until the port gives `Stop` or as many events as the words say. A logon client
 /// has `logon`: its files are read and judged, the challenges are started, the server is dialled, and a client runs to
-/// its outcome, which is the exit; and `station` likewise, for a workstation that logs a user on at a domain controller
-/// and off again. A member server has `check HASH CHALLENGE MESSAGE`, a logon client `show MESSAGE`, all in hex. A
-/// logon client has `drill --number N --moves M` besides, which puts what the run of a world by M moves of N counted.
-/// Every other command line is `BadWords(0)`. `BadInput(n)` is the first word, or the first option's file, that isn't
-/// of its form, `BadTable` a table that isn't. `Refused(Response)` is a response that isn't that of the hash; a logon's
-/// or a station's `Refused`, `NoAnswer` and `BadPeer` are its outcome. `FileFault`, `PortFault` and `SinkFault` come
-/// only where a count of that kind rose in this call, `Spent` where the end draws more challenges than are left,
-/// `NoMemory` where no memory was found; `check`, `show` and `drill` have put nothing then, and use neither port,
-/// files, clock nor challenges. `Runs` says what is done, and when each exit comes, a fact each.
+/// its outcome, which is the exit. It has `station` besides, run in the same way, for a workstation that logs a user on
+/// at a domain controller and off again. A member server has `check HASH CHALLENGE MESSAGE`, a logon client `show
+/// MESSAGE`, all in hex. A logon client has `drill --number N --moves M` besides, which puts what the run of a world by
+/// M moves of N counted. Every other command line is `BadWords(0)`. `BadInput(n)` is the first word, or the first
+/// option's file, that isn't of its form, `BadTable` a table that isn't. `Refused(Response)` is a response that isn't
+/// that of the hash; a logon's or a station's `Refused`, `NoAnswer` and `BadPeer` are its outcome. `FileFault`,
+/// `PortFault` and `SinkFault` come only where a count of that kind rose in this call, `Spent` where the end draws more
+/// challenges than are left, `NoMemory` where no memory was found; `check`, `show` and `drill` have put nothing then,
+/// and use neither port, files, clock nor challenges. `Runs` says what is done, and when each exit comes, a fact each.
 pub fn run<P: Port, F: Files, S: Sink, C: Clock, Q: Chances>(
     alloc: Global,
     role: Role,

@@ -275,7 +275,7 @@ drill_form = record {
       choice (codes "moves") (Number 100000) true ∷ [];
 }
 
--- so many moves, which the number makes
+-- a drill: as many moves, which the number makes
 pub record DrillJob : Type 0 where
   pub number : ℕ
   pub moves : ℕ

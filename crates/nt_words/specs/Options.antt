@@ -113,7 +113,7 @@ abbrev pub add_file : Bool → ℕ → Choice → List (ℕ × Choice) → List 
 add_file true number choice later = (number, choice) ∷ later
 add_file false number choice later = later
 
--- these options, each with its number, where the first option has the number `first`
+-- the options whose values are files, each with its number, where the first option has the number `first`
 abbrev pub file_options : ℕ → List Choice → List (ℕ × Choice)
 file_options first [] = []
 file_options first (choice ∷ more) = add_file (is_file choice.kind) first choice (file_options (first + 1) more)

@@ -57,7 +57,7 @@ job_of Logon words = logon_by (is_led_by (codes "show") words) words
 
 -- ---- what is seen without memory
 
--- another first word than the command is seen without memory
+-- a first word that isn't the command is seen without memory
 abbrev pub unless_led : Bool → Option (Result Job WordsRefused)
 unless_led true = None
 unless_led false = Some (Err (BadWords 0))

@@ -79,21 +79,21 @@ impl<'a> OptionForm<'a> {
         OptionForm { name, kind, needed }
     }
 
-    /// Its name.
+    /// The option's name.
     pub fn name(&self) -> &'a str
         ensures { result.now ≡ self.now.name }
     {
         self.name
     }
 
-    /// Whether it must be given.
+    /// Whether the option must be given.
     pub fn is_needed(&self) -> bool
         ensures { result ≡ self.now.needed }
     {
         self.needed
     }
 
-    /// Whether its value, or that it has none, is right.
+    /// Whether the option's value, or that it has none, is right.
     pub fn suits(&self, matches: &ArgMatches, value: Option<&str>) -> bool
         ensures { let rows = rows_of (found_of matches.now) in
             result ≡ suits rows self.now (option_map (λ s. s.now) value.entry) }

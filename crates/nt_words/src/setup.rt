@@ -38,7 +38,7 @@ pub fn set_up<'a, F: Files>(
     ensures files { let shelf = shelf_of F.faults F.contents F.reads F.writes in
         ReadsFiles (file_names service.entry) (setup_due service.entry) result
         (shelf files.old) (shelf files.new) }
-    // It is the set-up of that service, also where the files' contents aren't told.
+    // What is set up is that service, also where the files' contents aren't told.
     ensures words { IfOk result (λ setup. service_in setup ≡ service.entry) }
 {
     match service {

@@ -170,8 +170,8 @@ pub record AreForLogon
   pub moved : seed_in logons.channel.standing ≡ Some (next_seed seed timestamp)
   pub asks : AreFramesOf number (call_for logons.plan (authenticator_of (channel_key channel) seed timestamp) place logon) frames
 
--- What goes out on the link of the turn is such a request, for the logon that is kept under the place that is written
--- down.
+-- What goes out on the link of the turn is the request for a logon: for the one that is kept under the place that is
+-- written down.
 pub record IsForItsLogon
     (controller : ℕ) (before : AtTurn) (later : Option AtTurn) (called : Option ℕ) (channel : ChannelIdentity) (number timestamp : ℕ) : Type 0 where
   pub frames : List (List ℕ)
@@ -195,7 +195,8 @@ change_for plan given key next = record {
 }
 
 -- Frames are the request of that number that sets the next secret that is kept, with the names of the member's plan,
--- and an authenticator as a Logon call has; and the channel is such as well.
+-- and an authenticator as a Logon call has. The channel is that of the plan's computer, by the secret of who asks, with
+-- that controller.
 pub record AreForChange
     (controller : ℕ) (logons : Logons) (channel : ChannelIdentity) (number timestamp : ℕ) (frames : List (List ℕ)) : Type 0 where
   pub next : List ℕ
@@ -208,7 +209,7 @@ pub record AreForChange
   pub asks : AreFramesOfSet number
       (change_for logons.plan (authenticator_of (channel_key channel) seed timestamp) (channel_key channel) next) frames
 
--- What goes out on the link of the turn is such a request.
+-- What goes out on the link of the turn is the request that sets the next secret.
 pub record IsForItsChange
     (controller : ℕ) (before : AtTurn) (later : Option AtTurn) (channel : ChannelIdentity) (number timestamp : ℕ) : Type 0 where
   pub frames : List (List ℕ)

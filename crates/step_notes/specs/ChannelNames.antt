@@ -1,7 +1,7 @@
 -- Both ends of a secure channel name it alike in what is written down of a run (MS-NRPC 3.1.4.1; the names are this
 -- project's own choice): the member that opens it, asks on it and takes its answers, and the controller at which its
--- credentials pass. So no credential that passes in a unit that was made for the channel is a clash. And what a client
--- sends for a CHALLENGE is written down, with the key that it keeps.
+-- credentials pass. So no credential that passes in a unit that was made for the channel is a clash. What a client
+-- sends for a CHALLENGE is written down too, with the key that it keeps.
 use Rattle.std.specs.Prelude.{ℕ, ◌≡◌, Bool, true, false, List, [], ◌∷◌, ◌++◌, flat_map, map, Option, Some, None, Ok, slice_get}
 use Rattle.std.specs.List.{AllByRecursion}
 use Rattle.wire_base.specs.Maps.{lookup}
@@ -87,7 +87,7 @@ pub record WillAsk (s : Requester) (c : Call) : Type 0 where
   pub place : ℕ
   pub turn : s.turn ≡ Some (record { number = number; place = place; step = step.Bind c })
 
--- both challenges are known, and the call that opens their channel waits
+-- a requester knows both challenges, and the call that opens their channel waits
 pub record WillOpen (s : Requester) (client server : List ℕ) : Type 0 where
   pub half : s.standing ≡ standing.Half client server
   pub asks : WillAsk s (auth_call s.caller client server)
@@ -131,7 +131,7 @@ place_answered (taken.Answer place verdict) = Some place
 place_answered (taken.Dropped place cause) = None
 place_answered taken.Set = None
 
--- they are those of that call, with that number, in fragments of some size
+-- frames are those of a call, with that number, in fragments of some size
 abbrev pub AreFramesOf : ℕ → Call → List (List ℕ) → Type 0
 AreFramesOf number c frames = (limit : ℕ) × (frames ≡ frames_of (request_of number 0 (opnum_of_call c) (written_call c)) limit)
 
@@ -164,7 +164,7 @@ pub record Expects (d : Desk) (s : Requester) (client server : List ℕ) : Type 
   pub secret : account.hash ≡ s.caller.secret
   pub pair : lookup same_name s.caller.computer d.work.computers.pending ≡ Some (record { client = client; server = server })
 
--- it keeps that channel, with whatever seed
+-- a controller keeps that channel, with whatever seed
 pub record HasChannel (computers : Computers) (channel : ChannelIdentity) : Type 0 where
   pub state : SecureChannelState
   pub kept : lookup same_name channel.computer computers.channels ≡ Some state

@@ -61,7 +61,7 @@ pub record ClientAt : Type 0 where
   pub client : ℕ
   pub link : ℕ
 
--- its bytes, where it can be written
+-- a message that a client made, by its bytes, where it can be written
 abbrev pub made_of : Result (List ℕ) WriteRefused → ClientAt → ClientPlan → List ℕ → List ℕ → List MessageMade
 made_of (Err why) w plan challenge key = []
 made_of (Ok bytes) w plan challenge key = record {

@@ -153,11 +153,11 @@ abbrev pub opened_mark : Option ℕ → ChannelIdentity → ℕ → Mark
 opened_mark None channel number = Plain
 opened_mark (Some unit) channel number = Opened channel number unit
 
--- the channel that such a call opens, by its number
+-- the channel that a NetrServerAuthenticate2 opens, by the call's number
 abbrev pub accepting : Where → ℕ → ChannelIdentity → ChannelAccepted
 accepting w number channel = record { at = w.at; source = w.source; number = number; channel = channel; reply = None }
 
--- such a call, by the channel that it opens, and its number
+-- a NetrServerAuthenticate2, by the channel that it opens, and its number
 abbrev pub opening : Option ChannelIdentity → Where → ℕ → Answered
 opening None w number = plain
 opening (Some channel) w number =

@@ -24,7 +24,7 @@ asks_opening _ = false
 abbrev pub opening_out_of : Requester → Bool
 opening_out_of s = asks_opening (step_in s.turn)
 
--- its opening is out afterwards as before, while an opening is under way
+-- while an opening is under way, whether the requester's opening is out stays as it was
 abbrev pub StaysOut : View → Bool → Bool → Type 0
 StaysOut v old new = (challenge : List ℕ) → v.opening ≡ Some challenge → new ≡ old
 

@@ -281,11 +281,11 @@ abbrev pub taken_by : (was_challenged : Bool) → Option Talk → ℕ → List �
 taken_by false after link = []
 taken_by true after link = taken_after after link
 
--- the link, where the unit was such a message
+-- the link, where the unit was an AUTHENTICATE that was taken
 abbrev pub taken_link : LinkAt → ServedUnit AtLink Talk → List ℕ
 taken_link w unit = taken_by (is_challenged unit.talk.phase) (talk_after unit.part) w.link
 
--- besides, its logon waits: the member keeps it by its place
+-- an AUTHENTICATE that was taken and whose logon waits: the member keeps it by its place
 abbrev pub message_kept : Option Logon → ℕ → LinkAt → List ℕ → List MessageTaken
 message_kept None place w bytes = []
 message_kept (Some logon) place w bytes = record {

@@ -174,7 +174,7 @@ pub record Book : Type 0 where
   pub forwards : List Forward
   pub judgements : List JudgementTold
   pub accepted : List ChannelAccepted
-  -- the others in their order
+  -- what ends sent and took beside calls, in the order in which it happened
   pub challenges : List ChallengeSent
   -- the link of each AUTHENTICATE that a member took, also of one for which no place was free
   pub taken : List ℕ

@@ -63,8 +63,8 @@ pub record IsReplyOfCall (channel : ChannelIdentity) (number request : ℕ) (j :
   pub call : j.number ≡ number
   pub carries : IsItsReply j bytes
 
--- These bytes are all frames of the reply that opens a channel (MS-NRPC 3.5.4.4.2), under that call's number: it has
--- the credential of a server challenge under some session key, and the flags that are granted of those offered.
+-- The bytes are all frames of the reply that opens a channel (MS-NRPC 3.5.4.4.2), under that call's number: it has the
+-- credential of a server challenge under some session key, and the flags that are granted of those offered.
 pub record IsOpeningReply (number : ℕ) (bytes : List ℕ) : Type 0 where
   pub context : ℕ
   pub limit : ℕ

@@ -110,7 +110,7 @@ trust_answers_of link w c piece now left = map (trust_answer_on link w) (trust_u
 
 -- ---- calls that are handed on
 
--- those of these that were, in order
+-- the call, where it was handed on
 abbrev pub if_handed : Option Judged → Judging → List Judging
 if_handed (Some judged.Forwarded) j = j ∷ []
 if_handed how j = []
@@ -167,8 +167,8 @@ abbrev pub asking_units : ControllerState → ℕ → List ℕ → ℕ → List 
 asking_units c number piece now left =
     units_if_taken (trust_step_of c (event.Bytes number piece) now left).answer (asking_units_in c.running number piece c.trusting left)
 
--- What is written down of such a unit is what is written down of one that a member's turn takes: it is of the requester
--- alone, where the channel is with that controller.
+-- What is written down of a unit that a controller's turn takes is what is written down of one of a member's turn: it
+-- is of the requester alone, where the channel is with that controller.
 abbrev pub asking_note : ℕ → ServedUnit TurnWork TurnTalk → TurnNote
 asking_note controller unit =
     taking_note (taking_read (unit_of unit.bytes) unit.talk.joiner unit.work.channel) controller unit.work.channel

@@ -74,7 +74,7 @@ same_trusts : (hands_on : Bool) (one other : AccountTable) → other.trusts ≡ 
 same_trusts false one other same none = tt
 same_trusts true one other same none = same ∙ none
 
--- one that is made from such a table is made as one that trusts no domain
+-- a controller that is made from a table which trusts nobody is made as one that trusts no domain
 pub fresh_alone : (hands_on : Bool) (table : AccountTable) (name : List ℕ) → TrustsNobody hands_on table → fresh_controller hands_on false table name ≡ first_state table name
 fresh_alone false table name none = refl
 fresh_alone true table name none = steps_alone.without_trusts table name none
@@ -176,7 +176,7 @@ pub plain_plan : (plan : Plan) → plan.seals ≡ false → plan.hands_on ≡ fa
 plain_plan plan unsealed is =
     subst (λ (hands_on : Bool). AllByRecursion (TrustsNobody hands_on) plan.tables) (sym (ap₂ (λ (seals hands_on : Bool). seals || hands_on) unsealed is)) (all_plain plan.tables)
 
--- such a plan, in which nothing seals
+-- a plan in which nothing seals, and whose controllers aren't to hand on, asks nobody
 pub alone_if : (plan : Plan) → NothingSeals plan → plan.hands_on ≡ false → IsPlainAlone plan
 alone_if plan plain is = record { plain = plain; alone = plain_plan plan plain.controllers is }
 

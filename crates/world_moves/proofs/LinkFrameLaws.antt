@@ -33,13 +33,13 @@ pub record IsOnLink (links : List Route) (unit : BagUnit) : Type 0 where
   pub own : is_own (kind_of route) ≡ true
   pub same_kind : kind_of route ≡ unit.kind
 
--- It holds on where a unit goes into the bag, and where a link is open no more.
+-- A fact of links holds on where a unit goes into the bag, and where a link is open no more.
 pub record StaysOnLinks (Fits : LinkFact) : Type 0 where
   pub sends : (unit : BagUnit) (links : List Route) (map : OpenMap) (bag : List BagUnit) → IsOnLink links unit → Fits links map bag → Fits links map (bag ++ unit ∷ [])
   pub shuts : (link : ℕ) (links : List Route) (map : OpenMap) (bag : List BagUnit) → Fits links map bag → Fits links (take_out same_number link map) bag
 
--- It holds on where a link is made, where its other side is open too, where an end is forgotten, and where a unit is
--- delivered or lost.
+-- A fact of links holds on where a link is made, where its other side is open too, where an end is forgotten, and where
+-- a unit is delivered or lost.
 pub record StaysAlways (Fits : LinkFact) : Type 0 where
   pub steps : StaysOnLinks Fits
   pub opens : (route : Route) (links : List Route) (map : OpenMap) (bag : List BagUnit) → Fits links map bag →

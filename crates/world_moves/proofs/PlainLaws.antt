@@ -243,7 +243,7 @@ plans_plain [] none at plan is = absurd cc
 plans_plain (first ∷ plans) none zero plan is = subst IsUnsealed (let same : first ≡ plan = cc in same) none.0
 plans_plain (first ∷ plans) none (suc at) plan is = plans_plain plans none.1 at plan is
 
--- such a world, without the flag of its plan
+-- the first world of a plan in which nothing seals, made without the plan's flag, is one in which nothing seals
 pub plain_first : (plan : Plan) → NothingSeals plan → IsPlain (plain_world plan).state
 plain_first plan nothing = record {
   none = refl;

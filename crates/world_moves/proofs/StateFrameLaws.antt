@@ -29,7 +29,8 @@ use Rattle.world_moves.specs.Moving.{act, answer_by, answered_link, begun, come_
 abbrev pub StateFact : Type 1
 StateFact = State → State → Type 0
 
--- It holds on where an end hears something, where an action is done, and where a link is open no more.
+-- A relation of states holds on where an end hears something, where an action is done, and where a link is open no
+-- more.
 pub record HoldsActing (Rel : StateFact) : Type 0 where
   pub none : (s : State) → Rel s s
   pub both : (s between after : State) → Rel s between → Rel between after → Rel s after
@@ -37,7 +38,7 @@ pub record HoldsActing (Rel : StateFact) : Type 0 where
   pub acts : (end : EndId) (what : Action) (s : State) → Rel s (perform_quietly end what s)
   pub shuts : (link : ℕ) (s : State) → Rel s (shut_link link s)
 
--- It holds on where a client begins, and where one thing changes beside that.
+-- A relation of states holds on where a client begins, and where one thing changes beside that.
 pub record HoldsMoving (Rel : StateFact) : Type 0 where
   pub acting : HoldsActing Rel
   pub begins : (client : ℕ) (plan : ClientPlan) (s : State) → Rel s (begun client plan s).state

@@ -99,7 +99,7 @@ abbrev pub plans_after : EndId → Action → List MemberPlan → List MemberPla
 plans_after end (Keep text) plans = keep_at end text plans
 plans_after end _ plans = plans
 
--- they go behind the others; `Close` is passed over here
+-- What an action leaves in a state: units and dials go behind the others. `Close` is passed over here.
 abbrev pub perform_quietly : EndId → Action → State → State
 perform_quietly end what s = record s {
   member_plans = plans_after end what s.member_plans;

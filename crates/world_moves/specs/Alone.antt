@@ -62,8 +62,9 @@ pub record IsPlainAlone (plan : Plan) : Type 0 where
 
 -- ---- what holds of such worlds
 
--- A plan whose controllers don't hand on, nor seal, hands nothing on. A world in which nothing seals, and nothing is
--- handed on, is such a world at first, each move leaves it so, and an end hears as it does alone.
+-- A plan whose controllers don't hand on, nor seal, hands nothing on. The first world of a plan
+-- in which nothing seals, and that hands nothing on, asks nobody; each move leaves it so, and an end hears as it does
+-- alone.
 pub record HearsAlone : Type 0 where
   pub plain : (plan : Plan) → plan.seals ≡ false → plan.hands_on ≡ false → HandsNothingOn plan
   pub first : (plan : Plan) → IsPlainAlone plan → AsksNobody (first_world plan).state

@@ -6,7 +6,7 @@ use Rattle.wire_base.specs.Numbers.{AreBytes}
 use Rattle.end_links.specs.Bounds.{send_limit}
 use Rattle.world_moves.specs.declared.bag.BagUnit.{BagUnit}
 
--- neither delivered nor lost
+-- a unit that was neither delivered nor lost
 abbrev pub is_waiting : BagUnit → Bool
 is_waiting unit = not unit.is_settled
 

@@ -46,7 +46,7 @@ move_by kind seed =
 abbrev pub made : ℕ → Making
 made seed = move_by (value_of (next_seed seed) % 16) (next_seed seed)
 
--- so many moves
+-- as many moves, made from a seed
 abbrev pub moves_of : ℕ → ℕ → List Move
 moves_of zero seed = []
 moves_of (suc count) seed = (made seed).what ∷ moves_of count (made seed).after

@@ -112,7 +112,7 @@ pub record NoneSeals (seals : Bool) (controllers : List ControllerState) (member
 abbrev pub IsPlain : State → Type 0
 IsPlain s = NoneSeals s.seals s.ends.controllers s.ends.members s.member_plans
 
--- A world of a plan in which nothing seals is such a world at first, each move leaves it so, and an end hears and is
+-- In the first world of a plan in which nothing seals no end seals, each move leaves it so, and an end hears and is
 -- made anew as one that can't seal.
 pub record HearsPlainly : Type 0 where
   pub world : (plan : Plan) → NothingSeals plan → first_world plan ≡ plain_world plan

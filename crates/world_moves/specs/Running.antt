@@ -10,7 +10,7 @@ pub record AreRunning (controllers : List ControllerState) (members : List Membe
   pub each_controller : All (λ controller. controller_is_stopped controller ≡ false) controllers
   pub each_member : All (λ member. member_is_stopped member ≡ false) members
   pub each_client : All (λ client. IsSome client.running) clients
-  -- they can be numbered
+  -- the ends can be numbered
   pub few : length controllers + length members + length clients < 2 ^ 64
 
 -- the ends can be numbered, and none of them has stopped while no step was given up

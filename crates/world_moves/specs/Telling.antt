@@ -40,7 +40,7 @@ tells_one (Close link cause) = 0
 tells_one (Told link outcome) = 1
 tells_one (Judged how) = tells_judged how
 
--- so many of these do
+-- how many of the actions tell
 abbrev pub told_by : List Action → ℕ
 told_by [] = 0
 told_by (what ∷ actions) = tells_one what + told_by actions
@@ -107,6 +107,6 @@ adds_at _ = 0
 abbrev pub level_limit : ℕ
 level_limit = send_limit
 
--- so many moves told no more than they may
+-- what was told by `moves` moves is no more than they may tell
 unfoldable pub IsWithin : State → ℕ → Type 0
 IsWithin s moves = level_of s.counts s.ends ≤ level_limit * moves

@@ -24,7 +24,7 @@ pub record IsUnforwarded (plan : Plan) (moves : List Move) : Type 0 where
 abbrev pub IsJudgedAlone : Plan → List Move → Type 0
 IsJudgedAlone plan moves = HandsNothingOn plan ⊎ IsUnforwarded plan moves
 
--- the same plan, whose controllers aren't to hand logons on
+-- a plan with controllers that aren't to hand logons on
 abbrev pub alone_plan : Plan → Plan
 alone_plan plan = record plan { hands_on = false }
 
@@ -42,8 +42,8 @@ erased s = record s { ends = erased_ends s.ends; hands_on = false }
 abbrev pub erased_world : World → World
 erased_world w = record w { state = erased w.state }
 
--- So is the run of such a list of moves, of a plan in which nothing seals: it is that of the plan whose controllers ask
--- nobody, but for that.
+-- The run of a plan in which nothing seals and no call comes for a trusted domain is that of the plan whose controllers
+-- ask nobody, but for what controllers keep of those that could be asked.
 abbrev pub RunsAlone : Type 0
 RunsAlone = (plan : Plan) (moves : List Move) → NothingSeals plan → IsUnforwarded plan moves →
     run moves (first_world (alone_plan plan)) ≡ erased_world (run moves (first_world plan))

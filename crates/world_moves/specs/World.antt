@@ -106,7 +106,7 @@ abbrev pub run_of : List Move → World → List Passed
 run_of [] w = []
 run_of (what ∷ moves) w = record { world = happens w what; given = given_at w what } ∷ run_of moves (happens w what)
 
--- the world at the end of such a list of states
+-- the world at the end of a list of states
 abbrev pub last_of : List Passed → World → World
 last_of [] w = w
 last_of (one ∷ passed) w = last_of passed one.world
@@ -120,7 +120,7 @@ actions_in given = map (λ (one : EndId × Action). one.1) given
 abbrev pub actions_of_run : List Passed → List Action
 actions_of_run passed = flat_map (λ (one : Passed). actions_in one.given) passed
 
--- those of them that are counted, by the ends that gave them
+-- the actions that are counted, by the ends that gave them
 abbrev pub counted_given : Given → List Action
 counted_given given = flat_map (λ (one : EndId × Action). counted_of one.0 (one.1 ∷ [])) given
 

@@ -119,7 +119,7 @@ impl Bag {
         }
     }
 
-    /// That unit counts as delivered or lost.
+    /// The unit of that number counts as delivered or lost.
     #[tactic(auto, using(crate::proofs::BagLaws::settle_keeps, crate::proofs::BagLaws::units_settle, crate::proofs::BagLaws::bytes_settle))]
     pub(crate) fn settle(&mut self, number: usize)
         requires { number < length self.old }

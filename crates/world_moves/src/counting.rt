@@ -46,14 +46,14 @@ impl Counts {
         }
     }
 
-    /// Besides, these actions of that end, as far as they are counted.
+    /// What was counted, and these actions of an end besides, as far as they are counted.
     pub(crate) fn add(self, end: EndId, actions: &[Action]) -> Counts
         ensures { result ≡ add_counts self (counts_of (counted_of end actions.now)) }
     {
         self.add_all(counted_of(end, actions))
     }
 
-    /// Besides, these actions.
+    /// What was counted, and these actions besides.
     fn add_all(self, actions: &[Action]) -> Counts
         ensures { result ≡ add_counts self (counts_of actions.now) }
     {

@@ -48,7 +48,7 @@ impl Model for Ends {
 }
 
 impl Ends {
-    /// These ends, none of which has stopped. It takes no memory.
+    /// The ends of a world, none of which has stopped. It takes no memory.
     pub(crate) fn new(
         controllers: Vec<Controller>,
         members: Vec<Member>,
@@ -317,7 +317,7 @@ impl Ends {
         self.clients = without_new(alloc, clients, had);
     }
 
-    /// This member is in the place of the one of that number, if there is one.
+    /// Puts a member in the place of the one of that number, if there is one.
     pub(crate) fn put_member(&mut self, at: usize, member: Member)
         requires { member_is_stopped member ≡ false }
         ensures { self.new ≡ with_member at member self.old }
@@ -329,7 +329,7 @@ impl Ends {
         }
     }
 
-    /// This client is in the place of the one of that number, if there is one.
+    /// Puts a client in the place of the one of that number, if there is one.
     pub(crate) fn put_client(&mut self, at: usize, client: Client)
         requires { IsSome client.running }
         ensures { self.new ≡ with_client at client self.old }

@@ -24,7 +24,7 @@ pub enum Move {
     FailDial,
     /// The oldest unit that was neither delivered nor lost is delivered on its own link.
     Onward,
-    /// That unit is lost.
+    /// The oldest unit that was neither delivered nor lost is lost.
     Lose,
     /// A unit is delivered, again or late or for the first time, on a link of its kind.
     Deliver { unit: u32, link: u32 },
@@ -38,7 +38,7 @@ pub enum Move {
     Restart(u32),
     /// A member begins to change its secret to this one, where it changes to none yet.
     Change { member: u32, secret: [u8; 16] },
-    /// So many units of 100 ns pass.
+    /// Time passes: as many units of 100 ns.
     Tick(u64),
 }
 

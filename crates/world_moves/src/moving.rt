@@ -243,7 +243,7 @@ impl State {
         self.come(alloc, number, link)
     }
 
-    /// That unit is lost.
+    /// The oldest unit that was neither delivered nor lost is lost.
     fn lose(&mut self)
         ensures { self.new ≡ lose self.old }
     {

@@ -78,7 +78,7 @@ impl World {
         requires few { self.old.moves < move_limit }
         requires given { IsMove what.now }
         ensures world { OnOk result (self.new ≡ happens self.old what.now) }
-        // It answers `Stopped` exactly where it had stopped, and a move that isn't made stops it.
+        // `Stopped` is answered exactly where the world had stopped, and a move that isn't made stops it.
         ensures stopped { (result ≡ Err WorldRefused.Stopped) ↔ IsTrue self.old.stopped }
         ensures stops { OnErr result (self.new.stopped ≡ true) }
         ensures goes_on { OnOk result (self.new.stopped ≡ false) }
@@ -89,7 +89,7 @@ impl World {
         // Whatever it comes to, challenges are left for each further move that a world makes.
         ensures left { self.old.stopped ≡ false →
             HasChallengesFor (move_limit - (self.old.moves + 1)) self.new.state }
-        // So from a plan on the world is that of all moves, the earlier ones and this one.
+        // From a plan on the world is that of all moves, the earlier ones and this one.
         ensures from_plan { OnOk result ((plan : Plan) (earlier : List Move) →
             self.old ≡ run earlier (first_world plan) →
             self.new ≡ run (earlier ++ what.now ∷ []) (first_world plan)) }

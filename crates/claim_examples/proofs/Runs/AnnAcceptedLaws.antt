@@ -1,5 +1,5 @@
--- All that is proved of runs is so of the example's, which is a clear schedule. A message of it is accepted, and client
--- and member hold its key.
+-- All that is proved of runs holds of the example's run, which is a clear schedule. A message of it is accepted, and
+-- client and member hold its key.
 -- It serves `ann_is_accepted`.
 use Rattle.std.proofs.Common.{inl, refl}
 use Rattle.logon_runs.specs.FirstLogon.ExampleLogon.{ann_moves, ann_plan}

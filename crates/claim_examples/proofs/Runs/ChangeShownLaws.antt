@@ -1,6 +1,6 @@
--- The run in which FILE1 replaces its secret, computed: the hash that its controller has, what it holds and what it
--- kept, that nothing clashed and whether a stranger set a secret. So is the run in which one does. It serves
--- `a_change_leaves_none_apart` and `a_stranger_parts_them`.
+-- Runs in which FILE1 replaces its secret, computed, by its own call or where a stranger hands one in: the hash that
+-- its controller has, what it holds and what it kept, that nothing clashed and whether a stranger set a secret. It
+-- serves `a_change_leaves_none_apart` and `a_stranger_parts_them`.
 use Rattle.std.proofs.Common.{◌≡◌, ℕ, Bool, true, false, List, [], ◌∷◌, ◌++◌, length, Option, Some, slice_get, refl}
 use Rattle.std.proofs.Math.Bool.{xor}
 use Rattle.hex.specs.Hex.{decode_pairs, encode_with}

@@ -23,7 +23,7 @@ use Rattle.wire_base.proofs.ListLaws.{some_is}
 use Rattle.wire_base.proofs.ListPlaceLaws.{Placed, all_by_place, apart_same, one_at, placed}
 use Rattle.domain_controller.proofs.TrustPlaceLaws.{got_all}
 
--- such a response that verifies is the one to the challenge
+-- a response of 24 bytes that verifies is NTLMv1's to the challenge
 verified : (found : Option Account) (info : NetworkInfo) (hash : List ℕ) → hash_in found ≡ hash → length info.nt ≡ 24 →
     IsSomeAnd found (λ (account : Account). Verifies account.hash info.user info.domain info.challenge info.nt) → info.nt ≡ response_v1_of hash info.challenge
 verified None info hash is short verifies = absurd verifies

@@ -68,7 +68,7 @@ pub record IsOpenedFor (controller : ℕ) (table : AccountTable) (call : AuthCal
   pub controller_is : channel.controller ≡ controller
 
 module _ (controller : ℕ) (c : AuthCall) (account : Account) where
-  -- what such a channel is
+  -- a channel that is found has the account's hash, the call's computer and that controller
   abbrev HasHash : Option ChannelIdentity → Type 0
   HasHash found = (channel : ChannelIdentity) → found ≡ Some channel → (channel.secret ≡ account.hash) × (channel.computer ≡ c.computer) × (channel.controller ≡ controller)
 

@@ -73,7 +73,7 @@ abbrev pub kept_in : ℕ → Given → List ℕ → List ℕ
 kept_in m [] text = text
 kept_in m (one ∷ rest) text = kept_in m rest (kept_if (same_end one.0 (Member m)) one.1 text)
 
--- such a text is that of secrets of 16 bytes
+-- a text that an action of the member keeps is that of secrets of 16 bytes
 abbrev pub IsTextOf : ℕ → EndId × Action → Type 0
 IsTextOf m one = same_end one.0 (Member m) ≡ true → IsSecretsText one.1
 
@@ -193,7 +193,7 @@ module _ (m : ℕ) (what : Event) (now : ℕ) (left : List (List ℕ)) (rest : G
   texts_of (Some running) st runs are =
       subst (AllByRecursion IsSecretsText) (same_taken (StepOf st).answer) (keeps_texts.texts st running what now left runs (are running refl))
 
-  -- by what it was before
+  -- what a member holds behind a step, by what it ran as before
   held_behind : (r : Option Running) (own : MemberPlan) (st : MemberState) (later : Running) → st.running ≡ r → ((running : Running) → r ≡ Some running → IsHeldAs m rest own.secrets running) →
       Comes rest what → (StepOf st).state.running ≡ Some later → IsHeldAs m (given_by (Member m) (actions_by (StepOf st).answer) ++ rest) own.secrets later
   held_behind None own st later runs old comes is = absurd (no_some later (sym (stopped_steps st runs).1 ∙ is))
@@ -202,7 +202,7 @@ module _ (m : ℕ) (what : Event) (now : ℕ) (left : List (List ℕ)) (rest : G
     same = text_behind own st running later runs (old running refl) comes is;
   }
 
-  -- There has to be something that it is made from, since its texts are kept only then.
+  -- A member that takes a step needs a plan, since its texts are kept only where it has one.
   own_step : (own : MemberPlan) (st : MemberState) → slice_get plans m ≡ Some own → slice_get members m ≡ Some st → Comes rest what → KeepsSo m rest plans members →
       KeepsSo m (given_by (Member m) (actions_by (StepOf st).answer) ++ rest) plans (slice_set members m (StepOf st).state)
   own_step own st plan there comes keeps = record {

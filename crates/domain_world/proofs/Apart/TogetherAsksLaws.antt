@@ -26,7 +26,7 @@ use Rattle.domain_world.proofs.Moves.ComingLaws.{IsStill}
 use Rattle.domain_world.proofs.Moves.MarkPlaceLaws.{got_map}
 use Rattle.domain_world.proofs.Calls.CallHoldsLaws.{marks_in}
 
--- the secret that the bytes of such a call show under the key of its channel
+-- the secret that a call sets, shown under the key of its channel; None of a call that sets none
 abbrev pub set_by : ChannelIdentity → JudgedCall → Option (List ℕ)
 set_by channel (Network c) = None
 set_by channel (Interactive c) = None

@@ -56,7 +56,7 @@ earlier_on b next last one other = record {
   messages = other.messages ∙ ap (λ (old : List ℕ). old ++ other.links) one.messages ∙ append_assoc (links_in b.messages) one.links other.links;
 }
 
--- It leads to this bag and this book.
+-- The units, and the earlier book, lead to this bag and this book.
 pub record LeadsTo (bag : List BagUnit) (b : Book) (units : List BagUnit) (book : Book) : Type 0 where
   pub still : StillHas units bag
   pub earlier : IsEarlier book b

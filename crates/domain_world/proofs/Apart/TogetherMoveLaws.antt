@@ -65,7 +65,7 @@ pub still_at : (to : Option State) (s t : State) → StillHas s.bag t.bag → St
 still_at None s t still = still
 still_at (Some after) s t still = kept_same after.bag
 
--- the state once all is done that such an end does at a piece
+-- the state once all is done that a member, or a controller, does at a piece
 abbrev pub IsBehindMember : ℕ → MemberState → Delivery → List ℕ → State → State → Type 0
 IsBehindMember at m w piece s after = after ≡ stepped (Member at) (member_step (Some m) at (event.Bytes w.link piece) s.moment s.ends s.chances) s
 

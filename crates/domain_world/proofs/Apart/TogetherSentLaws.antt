@@ -59,7 +59,7 @@ abbrev pub sets_at : Option ℕ → Option (List ℕ) → Option (List ℕ)
 sets_at (Some place) next = None
 sets_at None next = next
 
--- a call that is sent for such a mark sets that secret, or none
+-- a call that is sent for a mark sets that secret, or none where it is None
 abbrev pub SetsMark : Option (List ℕ) → Mark → List ℕ → Type 0
 SetsMark secret Plain bytes = Unit {0}
 SetsMark secret (Opening channel number) bytes = Unit {0}

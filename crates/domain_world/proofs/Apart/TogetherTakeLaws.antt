@@ -343,7 +343,7 @@ half_tried standing.Nothing turn secret tried half opens = absurd half
 half_tried (standing.Half client server) turn secret tried half opens = opens
 half_tried (standing.Open o) turn secret tried half opens = absurd half
 
--- ---- the reply to a call that sets a secret is heard where such a call is out
+-- ---- the reply to a call that sets a secret is heard where a call that sets one is out
 
 abbrev pub IsSetReply : Option Step → Type 0
 IsSetReply (Some (step.Set set_step.Reply)) = Unit {0}

@@ -1,5 +1,5 @@
--- What is known of calls is kept through all that happens in a run whose ends are quiet: each unit that comes on the
--- link of a turn is whole. So it is of each schedule. It serves `runs_stand_so`.
+-- What is known of calls is kept through all that happens in a run whose ends are quiet, and so in each schedule: each
+-- unit that comes on the link of a turn is whole. It serves `runs_stand_so`.
 use Rattle.std.proofs.Common.{◌≡◌, ◌⊎◌, ℕ, zero, suc, ◌+◌, ◌*◌, ◌≤◌, ◌==◌, Bool, true, false, List, [], ◌∷◌, length, inl, inr, Option, Some, None, slice_get, refl, sym, ap, ◌∙◌, subst, arith}
 use Rattle.std.specs.Prelude.{◌&&◌, drop, map, not}
 use Rattle.std.specs.List.{AllByRecursion}

@@ -218,11 +218,11 @@ differ_ends : (one other : ℕ) → one ≢ other → (one == other) ≡ false
 differ_ends one other differ = false_from_ne_true (one == other) (λ is. differ ((Decides-eqb one other).0 is))
 
 module _ (plans : List MemberPlan) (ends : EndStates) (at : ℕ) (new : MemberState) where
-  -- that one is so afterwards
+  -- the ends, with the member of that number as it is afterwards
   abbrev pub with_new : EndStates
   with_new = record ends { members = slice_set ends.members at new }
 
-  -- each is seen as before but for that one
+  -- each member is seen as before but for the one that changed
   seen_found : (found : Option MemberState) (j : ℕ) (v : View) → slice_get (slice_set ends.members at new) j ≡ found →
       seen_member (controller_of_plan (slice_get plans j) ends) found ≡ Some v →
       seen_or (j == at) (seen_running (controller_of_plan (slice_get plans at) ends) new.running) (views_at plans ends j) ≡ Some v

@@ -41,7 +41,7 @@ pub record IsCallMark (controller : ℕ) (mark : Mark) : Type 0 where
   pub is : mark ≡ Calling channel number timestamp
   pub named : channel.controller ≡ controller
 
--- where a place's call goes out, a unit does, with such a mark
+-- where a place's call goes out, a unit goes out that is marked as a call on a channel with that controller
 abbrev CallsSo : ℕ → TurnNote → Type 0
 CallsSo controller note = (place : ℕ) → note.called ≡ Some place → (note.sends ≡ true) × IsCallMark controller note.mark
 
@@ -105,7 +105,7 @@ module _ (At : ℕ → Mark → Type 0) (Own : ℕ → Type 0) (Good : ℕ → �
       subst (Good link) (some_is first n number)
       (so link first mark (link_own place link logons.asked (lookup same_number place logons.asked) refl there each) at.0 (calls place refl).1)
 
-  -- where each logon that is kept came on such a link, the call of each has its mark
+  -- where each logon that is kept came on a link of which `Own` holds, the call of each has its mark
   pub turns_marked : (link : ℕ) (units : List (ServedUnit AtTurn TurnTalk)) (numbers : List ℕ) →
       AllByRecursion (IsReadyUnit (λ (at : ℕ) (logon : Logon). Own logon.link) link controller) units →
       AtNumbers At (turn_marks (map (turn_note controller) units)) numbers → GoodTurns Good controller units numbers

@@ -135,7 +135,7 @@ module _ (n : ℕ) (plans : List MemberPlan) (ends : EndStates) (links : List Ro
       (record { asks = fresh_asks plan; kept = (tt, tt); accepts = tt; out = λ pending logon turn reply there. absurd (none_out pending turn) })
       (λ k other. nothing_new links sent messages k) holds.accepted holds.answered
 
-  -- it begins to change its secret: it is seen as before
+  -- a member that begins to change its secret is seen as it was
   pub seen_still : (secret : List ℕ) (running : Running) (at j : ℕ) (hit : Bool) (v : View) → slice_get ends.members at ≡ Some (record { running = Some running }) → (j == at) ≡ hit →
       seen_or hit (seen_running (controller_of_plan (slice_get plans at) ends) (member_begun secret running).running) (views_at plans ends j) ≡ Some v → views_at plans ends j ≡ Some v
   seen_still secret running at j false v there is seen = seen

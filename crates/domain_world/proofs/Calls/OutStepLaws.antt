@@ -86,8 +86,8 @@ OutFor units messages controller member (Some running) =
     lookup same_number pending.place running.logons.asked ≡ Some logon →
     OneOf (IsOutIn units member pending logon (standing_channel controller running.logons.channel)) messages
 
--- It asks for what it keeps, of each logon it took the message, it dialled the link of its turn, it accepted those
--- whose challenge hasn't served, and a Logon call that is out is that of its message.
+-- The member asks for what it keeps, and took the message of each logon. It dialled the link of its turn, accepted the
+-- links whose challenge hasn't served, and a Logon call that is out is that of its message.
 pub record MemberHolds (links : List Route) (units : List Sent) (messages : List MessageTaken) (controller member : ℕ) (r : Option Running) : Type 0 where
   pub asks : AsksUnlessStopped r
   pub kept : KeptIn (HasOne member messages) (λ number. IsDialledBy links member number) r

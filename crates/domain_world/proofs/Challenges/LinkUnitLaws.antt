@@ -24,8 +24,8 @@ use Rattle.step_notes.specs.Records.{MessageTaken}
 use Rattle.step_notes.specs.Served.{talk_after}
 use Rattle.domain_world.specs.Claims.LeftOut.{Answers, DrawsFor, IfServed, IsTakenAs, SendsAt, Takes, TakesAt}
 
--- a unit that comes where the link is so far; the first argument: whether nothing is bound
-abbrev pub unit_at : Bool → Phase → List ℕ → Option RpcUnit → AtLink → List (List ℕ) → ServedUnit AtLink Talk
+-- a unit that comes on a link in a phase
+abbrev pub unit_at : (is_fresh : Bool) → Phase → List ℕ → Option RpcUnit → AtLink → List (List ℕ) → ServedUnit AtLink Talk
 unit_at fresh p bytes joiner at left =
     record { bytes = bytes; work = at; talk = record { joiner = joiner; phase = p }; left = left; part = unit_by fresh p bytes joiner at left }
 

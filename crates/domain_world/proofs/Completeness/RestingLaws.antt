@@ -53,7 +53,7 @@ fewer_moves moves left enough = record { many = omega (arith, enough.many); bloc
 
 -- ---- a client that started at rest
 
--- So many moves ago, from that state on. Once nothing waits the world rests.
+-- A client started `count` moves ago, from the state `first` on. Once nothing waits the world rests.
 pub record IsGoing (plan : Plan) (s : State) (client : ℕ) (task : ClientPlan) (first : State) (count : ℕ) (now : State) : Type 0 where
   pub closes : (more : List Move) → AllByRecursion IsStepOn more → AreBelow more now → HasEnough (count + length more) first.chances.left →
       (moved_by more now).dials ≡ [] → waiting (moved_by more now).bag ≡ [] → LogonRests plan s client task (count + length more) first (moved_by more now)

@@ -360,7 +360,7 @@ moves_keep_alone Known Holds keeps plan moves nobody has holds =
     moves_keep_plain Known (Both AloneFact Holds) (both_keep Known Holds keeps) plan moves nobody.plain has (λ on. (starts_alone 0 on (plain_world plan).state (first_is_alone plan nobody), holds on)) in
     record { steps = after.steps; holds = after.holds.1; few = after.few }
 
--- so it is where what is handed in are bytes, and what holds says so of the bag
+-- a fact that says of the bag that its units are bytes is kept where what is handed in are bytes
 pub moves_carry_alone : (Holds : MoveFact) → KeepsMoves (Unit {0}) NoSide Holds → ((n at : ℕ) (s : State) (b : Book) → Holds n (started at None) s [] b → IsBytesBag s.bag) →
     (plan : Plan) (moves : List Move) → IsPlainAlone plan → AllByRecursion HandsBytes moves → ((on : Option Delivery) → Holds 0 (started 0 on) (plain_world plan).state [] blank) →
     HoldsAfterMoves (Unit {0}) Holds plan moves
@@ -391,7 +391,7 @@ later_keeps_alone Holds keeps moves w b stands holds =
     let later = later_keeps_plain (Both AloneFact Holds) (both_keep ⊥ Holds keeps) moves w b stands.placed stands.plain (λ on. (starts_alone w.moves on w.state stands.alone, holds on)) in
     (later.0, later.1.1)
 
--- it is such a world after each move
+-- a world in which nobody asks another controller is one after each move
 pub stands_next : (what : Move) (w : World) (b : Book) → StandsAlone w.state → StandsAlone (happens w what).state
 stands_next what w b stands = record {
   placed = placed_next what w b stands.placed;

@@ -69,7 +69,7 @@ member_marks at m w piece s = asked_marks (OfMember at) s (turn_units m w.link p
 
 -- ---- more is written down
 
--- The part of the book is now that: the units that had marks have them, and it holds of each new one.
+-- The part of the book that counts was `x` and is `now`: units that had marks have them, and `P` holds of each new one.
 pub goes_on_with : {X : Type 0} (P : UnitFact X) (x now : X) (bag units : List BagUnit) (sent : List Sent) (marks : List Mark) (at : ℕ) → length sent ≡ length bag →
     ((number : ℕ) (unit : BagUnit) (one : Sent) → slice_get bag number ≡ Some unit → slice_get sent number ≡ Some one → P x number unit one.mark → P now number unit one.mark) →
     length marks ≡ length units →
@@ -96,10 +96,10 @@ goes_on_with P x now bag units sent marks at same grows size fresh each number o
 
 -- ---- what is to be shown
 
--- It holds of every unit that is made for no channel, and goes on holding where a unit is delivered or lost, and where
--- more is written down of bytes that an end hears. It holds of each unit that a controller sends for a mark on the link
--- on which bytes came to it, and of each that goes into the bag where a member hears bytes, by the mark that the unit
--- gets. All units had their marks before, and the new ones are behind them.
+-- The fact holds of every unit that is made for no channel, and goes on holding where a unit is delivered or lost, and
+-- where more is written down of bytes that an end hears. It holds of each unit that a controller sends for a mark on
+-- the link on which bytes came to it, and of each that goes into the bag where a member hears bytes, by the mark that
+-- the unit gets. All units had their marks before, and the new ones are behind them.
 pub record MarksStay {X : Type 0} (part : Book → X) (Side : X → Fact) (P : UnitFact X) : Type 0 where
   pub plain : (x : X) (number : ℕ) (unit : BagUnit) → P x number unit Plain
   pub settles : (x : X) (number : ℕ) (unit : BagUnit) (mark : Mark) → P x number unit mark → P x number (settled unit) mark

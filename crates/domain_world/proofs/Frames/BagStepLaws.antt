@@ -36,9 +36,9 @@ use Rattle.outside.specs.declared.action.Action.{Action}
 abbrev pub BookFact : Type 1
 BookFact = List BagUnit → Book → Type 0
 
--- It stays as the units of the bag stay there, and as what ends gave is written down. Where an end hears bytes, it
--- holds with what is written down of them once the end has done all that it then does; each unit of the bag has its
--- mark before, where a controller or a member hears them.
+-- The fact `Fits` stays as the units of the bag stay there, and as what ends gave is written down. Where an end hears
+-- bytes, it holds with what is written down of them once the end has done all that it then does; each unit of the bag
+-- has its mark before, where a controller or a member hears them.
 pub record BagKeeps {X : Type 0} (Holds : RunFact) (part : Book → X) (Side : X → Fact) (Fits : BookFact) : Type 0 where
   pub still : (old bag : List BagUnit) (b : Book) → StillHas old bag → Fits old b → Fits bag b
   pub comes : (n : ℕ) (end : EndId) (w : Delivery) (piece : List ℕ) (s : State) (given : Given) (b : Book) → IsAtSide s.links w.link w.back end → CameFrom w.source s w piece → AreBytes piece →

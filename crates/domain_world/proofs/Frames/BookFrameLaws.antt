@@ -46,6 +46,6 @@ module _ (Holds : Book → Type 0)
   book_holds plan moves holds =
       let after : HoldsAfterMoves ⊥ OfBook plan moves = moves_keep ⊥ OfBook book_keeps plan moves (λ none. absurd none) (λ on. holds) in after.holds
 
-  -- the same from any world on
+  -- a fact of the book holds after a run from any world on
   pub book_stays : (moves : List Move) (w : World) (b : Book) → IsPlaced w.state → Holds b → Holds (book moves w b)
   book_stays moves w b placed holds = (later_keeps OfBook book_keeps moves w b placed (λ on. holds)).1

@@ -57,8 +57,8 @@ MeetsClient links k event.Stop = Unit {0}
 abbrev pub made_at : ClientAt → ClientState → List ℕ → ℕ → List (List ℕ) → List MessageMade
 made_at w c piece now left = flat_map (made_note w) (units_of_client c w.link piece now left)
 
--- It holds on where the client hears something, as other links are made and others make messages, and where it is made
--- anew from its plan and begun. What is written down of bytes goes with its step.
+-- A fact of a client holds on where the client hears something, as other links are made and others make messages, and
+-- where it is made anew from its plan and begun. What is written down of bytes goes with its step.
 pub record KeepsClients (plans : List ClientPlan) (Fits : ClientFact) (Made : MadeFact) : Type 0 where
   pub hears : (links : List Route) (made : List MessageMade) (k : ℕ) (c : ClientState) (what : Event) (now : ℕ) (left : List (List ℕ)) → MeetsClient links k what → Fits links made k c →
       Fits links made k (step_of c what now left).state

@@ -28,7 +28,7 @@ use Rattle.domain_world.proofs.Frames.EventLaws.{quiet_no_bytes}
 abbrev pub ControllersFact : Type 1
 ControllersFact = List ControllerState → Drawing → Type 0
 
--- so it is once a controller took that step
+-- a fact of controllers, once a controller took a step
 abbrev pub ControllerStepped : ControllersFact → ControllerState → ℕ → Event → ℕ → List ControllerState → Drawing → Type 0
 ControllerStepped Fits c at what now controllers chances =
     Fits (slice_set controllers at (step_of c what now chances.left).state) (drawn_on chances (step_of c what now chances.left).drawn (step_of c what now chances.left).left)
@@ -51,7 +51,7 @@ pub record KeepsControllers {X : Type 0} (part : Book → X) (Fits : X → Contr
       Fits x (slice_set controllers at (first_state c.table c.name)) chances
 
 module _ {X : Type 0} (part : Book → X) (Fits : X → ControllersFact) (keeps : KeepsControllers part Fits) where
-  -- as a fact of all ends
+  -- a fact of controllers, as one of all ends
   abbrev pub AmongControllers : X → Fact
   AmongControllers x ends chances links = Fits x ends.controllers chances
 

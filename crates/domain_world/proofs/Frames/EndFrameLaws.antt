@@ -86,7 +86,7 @@ pub record KeepsEndsBy (how : How) (Holds : EndFact) : Type 0 where
   -- the move is over, whatever comes in the next one
   pub over : (at : ℕ) (on next : Option Delivery) (s : State) (given : Given) (b : Book) → Holds at on (ends_in s) given b → Holds (at + 1) next (ends_in s) [] (note_given at given s b)
 
--- The same but for an end that is made anew, where it isn't known to hold on.
+-- `KeepsEndsBy` but for an end that is made anew, where the fact isn't known to hold on.
 pub record KeepsCalmEndsBy (how : How) (Holds : EndFact) : Type 0 where
   pub calm : (at : ℕ) (on : Option Delivery) (end : EndId) (what : Event) (s : State) (given : Given) (b : Book) → IsCalm what → Holds at on (ends_in s) given b →
       HasHeard Holds at on end (how.hears end what s) given b
@@ -102,7 +102,7 @@ pub record KeepsCalmEndsBy (how : How) (Holds : EndFact) : Type 0 where
   pub changes : (at member : ℕ) (secret : List ℕ) (s : State) (b : Book) → Holds at None (ends_in s) [] b → HasHeard Holds at None (Member member) (changed member secret s) [] b
   pub over : (at : ℕ) (on next : Option Delivery) (s : State) (given : Given) (b : Book) → Holds at on (ends_in s) given b → Holds (at + 1) next (ends_in s) [] (note_given at given s b)
 
--- the same where controllers ask nobody
+-- `KeepsEndsBy` where controllers ask nobody
 abbrev pub KeepsEnds : EndFact → Type 0
 KeepsEnds Holds = KeepsEndsBy alone Holds
 
@@ -172,7 +172,7 @@ module _ (Holds : EndFact) (keeps : KeepsEnds Holds) where
   ends_after plan moves nobody holds =
       let after : HoldsAfterMoves ⊥ (OfMoves Holds) plan moves = moves_keep_alone ⊥ (OfMoves Holds) (ends_keep ⊥) plan moves nobody (λ none. absurd none) holds in after.holds
 
-  -- the same from any world on
+  -- a fact of ends holds after a run from any world on in which nobody asks another
   pub ends_later : (moves : List Move) (w : World) (b : Book) → StandsAlone w.state → ((on : Option Delivery) → Holds w.moves on (ends_in w.state) [] b) →
       Holds (run moves w).moves None (ends_in (run moves w).state) [] (book moves w b)
   ends_later moves w b stands holds = (later_keeps_alone (OfMoves Holds) (ends_keep ⊥) moves w b stands holds).1

@@ -60,7 +60,7 @@ pub book_by : (P : EndId → Book → Type 0) (w : Delivery) (piece : List ℕ) 
     ((at : ℕ) (c : ClientState) → slice_get s.ends.clients at ≡ Some c → P (Client at) (note_client (Some c) at w piece s b)) → (end : EndId) → P end (note_at (Some end) w piece s after b)
 book_by P w piece s after b none controllers members clients = noted_by (λ (end : EndId) (step : EndStep) (now : Book). P end now) w piece s after b none controllers members clients
 
--- so a state is once an end took that step
+-- the state once an end took a step and acted
 abbrev pub stepped : EndId → EndStep → State → State
 stepped end step s = (done end (heard_by step s)).state
 

@@ -1,6 +1,6 @@
--- What a step of an end comes to in every world in which nothing seals, whether its controllers ask others or not: it
--- leaves a rest of the challenges that were left, and ends of one kind leave those of the others. So it is of what is
--- written down of bytes.
+-- What a step of an end, and what is written down of bytes, comes to in every world in which nothing seals, whether its
+-- controllers ask others or not: it leaves a rest of the challenges that were left, and ends of one kind leave those of
+-- the others.
 -- It serves `draws_of_runs_differ`, `Proved.let_in`, `Proved.messages` and others that look at no controller.
 use Rattle.std.proofs.Common.{◌≡◌, ℕ, Bool, true, false, List, [], ◌++◌, Option, Some, None, Ok, Err, slice_get, refl, sym, subst, append-nil}
 use Rattle.wire_base.specs.Maps.{lookup, same_number, take_out}
@@ -159,7 +159,7 @@ bytes_told end w piece s after b =
     (λ at m is. turns_told (OfMember at) w (turn_units m w.link piece s.moment s.chances.left) s after (note_messages at m w piece s b))
     (λ at c is. refl) end
 
--- so a state is once an end took that step
+-- the state once an end took a step and acted
 abbrev pub stepped : EndId → EndStep → State → State
 stepped end step s = (done end (heard_by step s)).state
 

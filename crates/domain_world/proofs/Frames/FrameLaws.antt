@@ -47,7 +47,7 @@ HoldsIn Fits s = Fits s.ends s.chances s.links
 abbrev pub HoldsAfter : Fact → EndStep → List Route → Type 0
 HoldsAfter Fits step links = Fits step.ends step.chances links
 
--- the same by the plans of the clients, from which they are made
+-- a fact of ends by the plans of the clients, from which they are made
 abbrev pub PlannedFact : Type 1
 PlannedFact = List ClientPlan → Fact
 
@@ -63,8 +63,8 @@ IsQuiet (event.Dialled link) = Unit {0}
 IsQuiet event.DialFailed = Unit {0}
 IsQuiet event.Stop = Unit {0}
 
--- It holds on where an end takes such a step, where a link is made and the end that accepts it hears of that, where an
--- end is made anew, and where a member begins to change its secret.
+-- A fact of ends holds on where one hears what `IsQuiet` allows, where a link is made and the end that accepts it hears
+-- of that, where an end is made anew, and where a member begins to change its secret.
 pub record Stays (Fits : Fact) : Type 0 where
   pub hears : (end : EndId) (what : Event) (now : ℕ) (ends : EndStates) (chances : Drawing) (links : List Route) → IsQuiet what → Fits ends chances links →
       HoldsAfter Fits (end_step end what now ends chances) links
@@ -80,7 +80,7 @@ pub record Stays (Fits : Fact) : Type 0 where
   pub clients : (client : ClientState) (at : ℕ) (ends : EndStates) (chances : Drawing) (links : List Route) → Fits ends chances links →
       Fits (with_client at client ends) chances links
 
--- The same, where a client is made from a plan that it is to have.
+-- `Stays`, where a client is made from a plan that it is to have.
 pub record StaysByPlans (Fits : PlannedFact) : Type 0 where
   pub hears : (end : EndId) (what : Event) (now : ℕ) (plans : List ClientPlan) (ends : EndStates) (chances : Drawing) (links : List Route) → IsQuiet what → Fits plans ends chances links →
       HoldsAfter (Fits plans) (end_step end what now ends chances) links
@@ -125,15 +125,15 @@ calm_quiet = by_calm IsQuiet (λ link. tt) tt tt
 
 -- ---- with what is written down
 
--- It holds with the part of the book that it speaks of: what is written down of bytes that an end hears goes with its
--- step, and nothing else changes that part.
+-- A fact of ends holds with the part of the book that it speaks of: what is written down of bytes that an end hears
+-- goes with its step, and nothing else changes that part.
 pub record StaysWritten {X : Type 0} (part : Book → X) (Fits : X → Fact) : Type 0 where
   pub stays : (x : X) → Stays (Fits x)
   pub bytes : (end : EndId) (w : Delivery) (piece : List ℕ) (s after : State) (b : Book) → HoldsIn (Fits (part b)) s →
       HoldsAfter (Fits (part (note_at (Some end) w piece s after b))) (end_step end (event.Bytes w.link piece) s.moment s.ends s.chances) s.links
   pub given : (at : ℕ) (given : Given) (after : State) (b : Book) → part (note_given at given after b) ≡ part b
 
--- the same by the plans of the clients
+-- `StaysWritten` by the plans of the clients
 pub record StaysWrittenByPlans {X : Type 0} (part : Book → X) (Fits : X → PlannedFact) : Type 0 where
   pub stays : (x : X) → StaysByPlans (Fits x)
   pub bytes : (end : EndId) (w : Delivery) (piece : List ℕ) (s after : State) (b : Book) → HoldsByPlans (Fits (part b)) s →
@@ -178,7 +178,7 @@ module _ {X : Type 0} (part : Book → X) (Fits : X → Fact) (written : StaysWr
   pub run_stays : (plan : Plan) (moves : List Move) → IsPlainAlone plan → HoldsIn (Fits (part blank)) (plain_world plan).state → HoldsIn (Fits (part (past plan moves).book)) (past plan moves).world.state
   run_stays plan moves nobody holds = run_stays_by_plans part (λ x plans. Fits x) (written_by_plans part Fits written) plan moves nobody holds
 
-  -- the same from any world on
+  -- a fact with its part of the book holds after a run from any world on
   pub later_stays : (moves : List Move) (w : World) (b : Book) → StandsAlone w.state → HoldsIn (Fits (part b)) w.state → HoldsIn (Fits (part (book moves w b))) (run moves w).state
   later_stays moves w b stands holds =
       ends_later (Planned part (λ x plans. Fits x) (written_by_plans part Fits written)) (planned_keeps part (λ x plans. Fits x) (written_by_plans part Fits written)) moves w b stands (λ on. holds)

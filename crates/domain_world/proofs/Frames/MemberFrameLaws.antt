@@ -40,7 +40,7 @@ use Rattle.member_server.specs.declared.state.Running.{Running}
 abbrev pub MembersFact : Type 1
 MembersFact = List MemberState → Drawing → List Route → Type 0
 
--- so it is once a member took that step
+-- a fact of members, once a member took a step
 abbrev pub MemberStepped : MembersFact → MemberState → ℕ → Event → ℕ → List MemberState → Drawing → List Route → Type 0
 MemberStepped Fits m at what now members chances links =
     Fits (slice_set members at (step_of m what now chances.left).state) (drawn_on chances (step_of m what now chances.left).drawn (step_of m what now chances.left).left) links
@@ -70,7 +70,7 @@ pub record KeepsMembers {X : Type 0} (part : Book → X) (Fits : X → MembersFa
       Fits x (slice_set members at (member_begun secret running)) chances links
 
 module _ {X : Type 0} (part : Book → X) (Fits : X → MembersFact) (keeps : KeepsMembers part Fits) where
-  -- as a fact of all ends
+  -- a fact of members, as one of all ends
   abbrev pub AmongMembers : X → Fact
   AmongMembers x ends chances links = Fits x ends.members chances links
 

@@ -150,7 +150,7 @@ module _ (Known : Type 0) (Holds : MoveFact) (keeps : KeepsCalmMovesBy any Known
 
   -- ---- moves at which no bytes come
 
-  -- at the end of such a move, or of a part of it
+  -- at the end of a move at which no bytes come, or of a part of it
   abbrev Quietly : ℕ → ℕ → Acted → Given → Book → Type 0
   Quietly at most acted given b = After (waiting at None) most acted given b
 
@@ -481,7 +481,8 @@ module _ (Holds : MoveFact) (keeps : KeepsMovesBy any (Unit {0}) NoSide Holds)
       (λ next. keeps.over moved.steps w.moves moved.on next (act w.state what).state (act w.state what).given (note_coming what w.moves w.state b) tt moved.holds) in
       record { steps = later.steps; holds = later.holds; few = λ known. omega (arith, later.few known, moved.few known) }
 
--- It holds after a run from a plan, at which ten steps of ends a move were taken at most, where what comes is known.
+-- A fact holds after a run from a plan, at which ten steps of ends a move were taken at most, where what comes is
+-- known.
 pub record HoldsAfterMoves (Known : Type 0) (Holds : MoveFact) (plan : Plan) (moves : List Move) : Type 0 where
   pub steps : ℕ
   pub holds : Holds steps (started (past plan moves).world.moves None) (past plan moves).world.state [] (past plan moves).book
@@ -497,7 +498,7 @@ moves_keep Known Holds keeps plan moves has holds =
     (record { made = tt; kinds = λ k unit there. absurd (got_nothing k unit there) }) holds in
     record { steps = ran.steps; holds = ran.holds None; few = λ known. omega (arith, ran.few known) }
 
--- so it is where what is handed in are bytes, and what holds says so of the bag
+-- a fact that says of the bag that its units are bytes is kept where what is handed in are bytes
 pub moves_carry : (Holds : MoveFact) → KeepsMovesBy any (Unit {0}) NoSide Holds → ((n at : ℕ) (s : State) (b : Book) → Holds n (started at None) s [] b → IsBytesBag s.bag) →
     (plan : Plan) (moves : List Move) → AllByRecursion HandsBytes moves → ((on : Option Delivery) → Holds 0 (started 0 on) (first_world plan).state [] blank) →
     HoldsAfterMoves (Unit {0}) Holds plan moves
@@ -508,7 +509,7 @@ moves_carry Holds keeps says plan moves handed holds =
 
 -- ---- from any world on
 
--- So it does after a run from any world in which links and units have their places, where nothing of bytes is asked.
+-- A fact that asks nothing of bytes holds after a run from any world in which links and units have their places.
 pub later_keeps : (Holds : MoveFact) → KeepsMovesBy any ⊥ NoSide Holds → (moves : List Move) (w : World) (b : Book) → IsPlaced w.state → ((on : Option Delivery) → Holds 0 (started w.moves on) w.state [] b) →
     (n : ℕ) × Holds n (started (run moves w).moves None) (run moves w).state [] (book moves w b)
 later_keeps Holds keeps moves w b placed holds =

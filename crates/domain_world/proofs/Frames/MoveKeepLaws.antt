@@ -108,7 +108,7 @@ AtWork None to = Unit {0}
 AtWork (Some w) None = ⊥
 AtWork (Some w) (Some after) = Unit {0}
 
--- It holds on where an end takes a step, where an action is done, and where one thing changes beside that. It may rest
+-- A fact holds on where an end takes a step, where an action is done, and where one thing changes beside. It may rest
 -- on a side fact, of which the same is shown apart (`join_moves` puts the two together). `Known` is what is known of
 -- the run: that what comes are bytes, that few pieces come in a move, and that secrets have 16 bytes.
 pub record KeepsMovesBy (how : How) (Known : Type 0) (Side Holds : MoveFact) : Type 0 where
@@ -153,7 +153,7 @@ pub record KeepsMovesBy (how : How) (Known : Type 0) (Side Holds : MoveFact) : T
   pub over : (n at : ℕ) (on next : Option Delivery) (s : State) (given : Given) (b : Book) → Side n (started at on) s given b → Holds n (started at on) s given b →
       Holds n (started (at + 1) next) s [] (note_given at given s b)
 
--- The same but for an end that is made anew, where it isn't known to hold on.
+-- `KeepsMovesBy` but for an end that is made anew, where the fact isn't known to hold on.
 pub record KeepsCalmMovesBy (how : How) (Known : Type 0) (Side Holds : MoveFact) : Type 0 where
   -- an end takes a step
   pub closes : (n : ℕ) (p : Progress) (end : EndId) (link : ℕ) (s : State) (given : Given) (b : Book) → AtWork p.on p.to → Side n p s given b → Holds n p s given b →
@@ -195,7 +195,7 @@ pub record KeepsCalmMovesBy (how : How) (Known : Type 0) (Side Holds : MoveFact)
   pub over : (n at : ℕ) (on next : Option Delivery) (s : State) (given : Given) (b : Book) → Side n (started at on) s given b → Holds n (started at on) s given b →
       Holds n (started (at + 1) next) s [] (note_given at given s b)
 
--- the same where controllers ask nobody
+-- `KeepsMovesBy` where controllers ask nobody
 abbrev pub KeepsMoves : Type 0 → MoveFact → MoveFact → Type 0
 KeepsMoves Known Side Holds = KeepsMovesBy alone Known Side Holds
 

@@ -144,7 +144,7 @@ moves_keep_plain Known Holds keeps plan moves nothing has holds =
     (λ on. at_first plan nothing (λ (s : State). IsPlain s × Holds 0 (started 0 on) s [] blank) (plain_first plan nothing, holds on)) in
     record { steps = after.steps; holds = after.holds.1; few = after.few }
 
--- so it is where what is handed in are bytes, and what holds says so of the bag
+-- a fact that says of the bag that its units are bytes is kept where what is handed in are bytes
 pub moves_carry_plain : (Holds : MoveFact) → KeepsMovesBy every (Unit {0}) NoSide Holds → ((n at : ℕ) (s : State) (b : Book) → Holds n (started at None) s [] b → IsBytesBag s.bag) →
     (plan : Plan) (moves : List Move) → NothingSeals plan → AllByRecursion HandsBytes moves → ((on : Option Delivery) → Holds 0 (started 0 on) (plain_world plan).state [] blank) →
     HoldsAfterMoves (Unit {0}) Holds plan moves

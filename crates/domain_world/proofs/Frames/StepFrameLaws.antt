@@ -52,7 +52,7 @@ pub record HasHeard (Holds : RunFact) (Fine : ActionFact) (n : ℕ) (end : EndId
   pub holds : Holds n heard.state (given ++ given_by end heard.actions) b
   pub fine : AllByRecursion (Fine end heard.state.links) heard.actions
 
--- It holds on where an end takes a step, where an action is done, and where one thing changes beside that. It may rest
+-- A fact holds on where an end takes a step, where an action is done, and where one thing changes beside. It may rest
 -- on a side fact, of which the same is shown apart (`join` puts the two together). `Over` is what is known of the end
 -- of a move.
 pub record KeepsWith (Over : Type 0) (Side Holds : RunFact) (Fine : ActionFact) : Type 0 where
@@ -91,7 +91,7 @@ pub record KeepsWith (Over : Type 0) (Side Holds : RunFact) (Fine : ActionFact) 
 abbrev pub KeepsOver : RunFact → RunFact → Type 0
 KeepsOver Side Holds = (n at : ℕ) (s : State) (given : Given) (b : Book) → Side n s given b → Holds n s given b → Holds n s [] (note_given at given s b)
 
--- and it holds on where a move is over
+-- `KeepsWith`, and the fact holds on where a move is over
 abbrev pub StepKeeps : RunFact → RunFact → ActionFact → Type 0
 StepKeeps Side Holds Fine = KeepsWith (KeepsOver Side Holds) Side Holds Fine
 
@@ -175,7 +175,7 @@ pub all_any : (actions : List Action) → AllByRecursion (λ (what : Action). Un
 all_any [] = tt
 all_any (what ∷ actions) = (tt, all_any actions)
 
--- The same while few steps were taken: that fewer were taken before is known then.
+-- A fact while few steps were taken: that fewer were taken before is known then.
 abbrev pub WhileFew : ℕ → RunFact → RunFact
 WhileFew most Holds n s given b = n ≤ most → Holds n s given b
 
@@ -260,7 +260,7 @@ module _ {Over : Type 0} (Holds : RunFact) (Fine : ActionFact) (keeps : KeepsWit
 
 -- ---- a run
 
--- It holds after a run from a plan, at which ten steps of ends a move were taken at most.
+-- A fact holds after a run from a plan, at which ten steps of ends a move were taken at most.
 pub record HoldsAfterRun (Holds : RunFact) (plan : Plan) (moves : List Move) : Type 0 where
   pub steps : ℕ
   pub holds : Holds steps (past plan moves).world.state [] (past plan moves).book
@@ -295,7 +295,7 @@ pub run_keeps : (Holds : RunFact) (Fine : ActionFact) → StepKeeps NoFact Holds
 run_keeps Holds Fine keeps plan moves nobody has holds =
     run_beside Holds Fine keeps Nothing (side_keeps no_part no_side nothing_written (Unit {0})) (λ n at on s given b none. keeps.over n at s given b tt) plan moves nobody has (λ on. tt) holds
 
--- so it is where what is handed in are bytes, and what holds says of the bag that its units are short, and have bytes
+-- a fact that says of the bag that its units are short bytes is kept where what is handed in are bytes
 pub run_carries : (Holds : RunFact) (Fine : ActionFact) → StepKeeps NoFact Holds Fine → ((n : ℕ) (s : State) (b : Book) → Holds n s [] b → IsBytesBag s.bag) →
     (plan : Plan) (moves : List Move) → IsPlainAlone plan → AllByRecursion HandsBytes moves → Holds 0 (plain_world plan).state [] blank → HoldsAfterRun Holds plan moves
 run_carries Holds Fine keeps says plan moves nobody handed holds =

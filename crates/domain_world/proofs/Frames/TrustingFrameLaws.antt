@@ -31,7 +31,7 @@ use Rattle.domain_world.proofs.Frames.MoveKeepLaws.{every}
 use Rattle.domain_world.proofs.Moves.LeftLaws.{DrawsOn}
 use Rattle.domain_world.proofs.Moves.NoBytesLaws.{IsNoBytes}
 
--- so it is once a controller took that step
+-- a fact of controllers, once a controller took a step
 abbrev pub TrustingStepped : ControllersFact → ControllerState → ℕ → Event → ℕ → List ControllerState → Drawing → Type 0
 TrustingStepped Fits c at what now controllers chances =
     Fits (slice_set controllers at (step_of c what now chances.left).state) (drawn_on chances (step_of c what now chances.left).drawn (step_of c what now chances.left).left)

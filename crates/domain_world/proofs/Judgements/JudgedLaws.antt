@@ -163,7 +163,7 @@ module _ (Known : AccountTable → Type 0) (Fits : Judging → Type 0) where
         (subst Known (sym is.table) holds.0, one_more answers (trust_judged_answer j) holds.1 (by_holds Fits j.how j (of.trusted line c d after is holds.0)));
   }
 
-  -- so it is of each call of a step
+  -- the fact holds of each call of a step
   pub each_of_step : (controller : ℕ) (c : ControllerState) (w : Delivery) (piece : List ℕ) (s : State) → HoldsOfEach (at_controller controller c w s) Known Fits → Known c.table →
       AreFit (answers_of controller c w piece s)
   each_of_step controller c w piece s of known =

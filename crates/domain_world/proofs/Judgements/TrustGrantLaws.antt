@@ -57,7 +57,7 @@ use Rattle.domain_world.proofs.Messages.MessageOnceLaws.{set_cases}
 
 -- ---- a call
 
--- It comes for a trusted domain, and isn't told to have passed with status 0.
+-- The call comes for a trusted domain, and isn't told to have passed with status 0.
 pub record IsElsewhere (j : Judging) : Type 0 where
   pub refused : j.how ≡ Some (judged.Passed 0) → ⊥
   pub info : NetworkInfo

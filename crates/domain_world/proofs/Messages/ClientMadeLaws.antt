@@ -91,7 +91,7 @@ units_are w plan units work talk left is =
 
 -- ---- what is written down of a step
 
--- of that client, on a link of its own, by such a plan
+-- a message of that client, on a link of its own, by a plan of which `P` holds
 abbrev pub IsBy : (ClientPlan → Type 0) → (ℕ → Type 0) → ℕ → MessageMade → Type 0
 IsBy P Own client one = (one.client ≡ client) × Own one.link × P one.plan
 

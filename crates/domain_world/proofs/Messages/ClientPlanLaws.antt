@@ -132,7 +132,7 @@ event_goes event.Stop Idle plan now left = refl
 event_goes event.Stop Dialling plan now left = refl
 event_goes event.Stop (On own) plan now left = refl
 
--- a client that runs goes by such a plan
+-- a client that runs goes by a plan of which `P` holds
 abbrev pub TaskIn : (ClientPlan → Type 0) → Option Running → Type 0
 TaskIn P None = Unit {0}
 TaskIn P (Some running) = P running.task
@@ -154,7 +154,7 @@ module _ (P : ClientPlan → Type 0) where
   running_task None c what now left was its = was
   running_task (Some running) c what now left was its = outcome_task c.outcome running c what now left was its
 
-  -- the plan of a client that takes a step is such a one, where it was
+  -- `P` holds of the plan of a client behind a step, where it held before
   pub task_stays : (c : ClientState) (what : Event) (now : ℕ) (left : List (List ℕ)) → TaskIn P c.running → TaskIn P (step_of c what now left).state.running
   task_stays c what now left its = running_task c.running c what now left its its
 

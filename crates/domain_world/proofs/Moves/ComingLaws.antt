@@ -87,7 +87,7 @@ place_in test [] start i number there = absurd cc
 place_in test (first ∷ items) start i number there =
     place_by (test first) test first items start i number refl there (λ j more. place_in test items (start + 1) j number more)
 
--- the item at such a number passes
+-- an item whose number is in `places_from` passes the test
 pub place_passes : {T : Type 0} (test : T → Bool) (items : List T) (i number : ℕ) → slice_get (places_from test 0 items) i ≡ Some number →
     (item : T) × (slice_get items number ≡ Some item) × (test item ≡ true)
 place_passes test items i number there =

@@ -144,7 +144,7 @@ IsHere link (Close other cause) = ⊥
 IsHere link (Told other outcome) = Unit {0}
 IsHere link (Judged how) = Unit {0}
 
--- the unit that such an action sends, on a link between these
+-- the unit that an action sends, on a link of that route
 abbrev pub front_unit : Route → EndId → ℕ → Action → List BagUnit
 front_unit route end link (Send other bytes) = unit_on route end link bytes ∷ []
 front_unit route end link _ = []
@@ -153,7 +153,7 @@ abbrev pub front_units : Route → EndId → ℕ → List Action → List BagUni
 front_units route end link [] = []
 front_units route end link (what ∷ actions) = front_unit route end link what ++ front_units route end link actions
 
--- what such an action does
+-- what an action that `IsHere` allows sends, and that it closes nothing
 here_does : (route : Route) (end : EndId) (link : ℕ) (what : Action) (s : State) → slice_get s.links link ≡ Some route → is_own (kind_of route) ≡ true → IsHere link what →
     (units_of_action s.links end what ≡ front_unit route end link what) × (link_closed what ≡ None)
 here_does route end link (Keep bytes) s made own here = (refl, refl)

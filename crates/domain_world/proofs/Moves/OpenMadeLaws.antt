@@ -112,7 +112,7 @@ IsApart (ToController member controller) = Unit {0}
 IsApart (Between from to) = ⊥
 IsApart (Stranger to) = Unit {0}
 
--- such a link, with the end at one of its sides
+-- a link that isn't between controllers, with the end at one of its sides
 pub record IsAtSide (links : List Route) (link : ℕ) (back : Bool) (end : EndId) : Type 0 where
   pub route : Route
   pub made : slice_get links link ≡ Some route

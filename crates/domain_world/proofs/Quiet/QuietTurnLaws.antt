@@ -25,7 +25,7 @@ use Rattle.step_notes.proofs.Members.TurnHeardLaws.{members_take}
 
 -- ---- the link of the turn
 
--- nothing is open on it, and it is such a link
+-- nothing is open on the link of the turn, and `Own` holds of it
 pub record IsRested (Own : ℕ → Type 0) (number : ℕ) (said : LinkState TurnTalk) : Type 0 where
   pub own : Own number
   pub rest : said.rest ≡ []
@@ -46,7 +46,8 @@ pub record IsOneUnit (bytes : List ℕ) : Type 0 where
   pub unit : RpcUnit
   pub heard : IsHeard bytes frames unit
 
--- what must be known of an event: the link of an answered dial is such a link, and what comes on one is a whole unit
+-- what must be known of an event: `Own` holds of the link of an answered dial, and what comes on such links is a whole
+-- unit
 abbrev pub ComesWell : (ℕ → Type 0) → Event → Type 0
 ComesWell Own (event.Opened link) = Unit {0}
 ComesWell Own (event.Bytes link piece) = Own link → IsOneUnit piece

@@ -35,8 +35,8 @@ use Rattle.domain_world.proofs.Moves.RequesterLaws.{asking_end, is_itself}
 
 -- ---- what is known of a member that runs
 
--- Its turns, with those that started in this move, and the calls of these. Where it dialled once in this move, and the
--- dial waits, its turn is that one.
+-- The member's turns, with those that started in this move, and the calls of these. Where it dialled once in this move,
+-- and the dial waits, its turn is that one.
 pub record OwnCalls (Done : ℕ → Type 0) (marks : List Mark) (drawn : List (List ℕ)) (turns : List ChannelTurn) (given : Given) (controller : ℕ) (who : RequesterId) (running : Running) : Type 0 where
   pub own : List ChannelTurn
   pub none : given_dials who given ≡ 0 → own ≡ mine who turns

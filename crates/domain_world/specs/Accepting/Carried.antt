@@ -1,6 +1,6 @@
 -- What is below the premises of the claims on answers (`Answered`): of each unit of the bag that its bytes are those of
--- one whole unit, of each mark what such a unit is, and of each message which calls were made for it and in which turn
--- its answer was taken. From these follow three of the eight premises (`CarriedCallsAreHeard`).
+-- one whole unit, of each mark what a unit with that mark is, and of each message which calls were made for it and in
+-- which turn its answer was taken. From these follow three of the eight premises (`CarriedCallsAreHeard`).
 use Rattle.std.specs.Prelude.{ℕ, ◌≡◌, ◌%◌, ◌^◌, true, false, List, Some, Ok, slice_get, ◌⊎◌, ◌<◌}
 use Rattle.std.specs.List.{AllByRecursion}
 use Rattle.wire_base.specs.declared.authenticator.Authenticator.{Authenticator}
@@ -49,7 +49,7 @@ pub record IsWholeUnit (bytes : List ℕ) : Type 0 where
 abbrev pub IsNotJudged : RpcUnit → Type 0
 IsNotJudged unit = (asked : JudgedCall) → call_carried unit.body ≡ Some (call_judged asked) → ⊥
 
--- it can be read as the reply to a Logon call, with an authenticator
+-- a unit can be read as the reply to a Logon call, with an authenticator
 pub record IsReadAsLogon (unit : RpcUnit) : Type 0 where
   pub read : LogonReply
   pub given : Authenticator

@@ -25,8 +25,8 @@ Differ draws = AllPairs (λ (one other : List ℕ). one ≢ other) draws
 abbrev pub seen_running : ℕ → Option Running → Option View
 seen_running controller r = view_with controller (requester_in r)
 
--- by whether it is that requester: as it is seen afterwards, or as before
-abbrev pub seen_or : Bool → Option View → Option View → Option View
+-- how a requester is seen: the one that took the step as it is afterwards, each other as before
+abbrev pub seen_or : (is_that_one : Bool) → Option View → Option View → Option View
 seen_or false new old = old
 seen_or true new old = new
 
@@ -47,7 +47,7 @@ CoherentIf (Some running) = IsCoherent running.logons.channel
 
 -- ---- marks that are written down
 
--- none of them opens a channel or is a call
+-- none of the marks is of an opening or a call
 abbrev pub NoRequests : List Mark → Type 0
 NoRequests marks = (k number : ℕ) (c : ChannelIdentity) (mark : Mark) → IsRequest c number mark → slice_get marks k ≡ Some mark → ⊥
 

@@ -66,8 +66,8 @@ MembersAskForMessages past =
     (controller number : ℕ) (piece : List ℕ) (now : ℕ) (left : List (List ℕ)) →
     AllByRecursion (AsksForItsMessage member past.book.messages controller) (turn_units m number piece now left)
 
--- bytes that a member sends are such a request, by its plan, the logons that it keeps and the channel that stands as
--- they were before the step, and what is asked is what a message asks
+-- bytes that a member sends are the request for a logon, by its plan, the logons that it keeps and the channel that
+-- stands as they were before the step, and what is asked is what a message asks
 pub record AreSentForMessage
     (member : ℕ) (m : MemberState) (messages : List MessageTaken) (controller : ℕ) (bytes : List ℕ) (channel : ChannelIdentity) (number timestamp : ℕ) : Type 0 where
   pub running : Running

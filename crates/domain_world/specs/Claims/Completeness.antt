@@ -83,8 +83,8 @@ pub record HasComputer (table : AccountTable) (plan : MemberPlan) : Type 0 where
 abbrev pub members_of : EndStates → ℕ → List MemberPlan → List MemberPlan
 members_of ends controller plans = filter (λ (plan : MemberPlan). is_end (end_of_peer plan.controller ends) (Controller controller)) plans
 
--- as many bytes as the NT response of its kind has at least (MS-NLMP 3.3.1, 3.3.2): whether it is one of 24 bytes
--- is all that is asked of it here
+-- A response of as many bytes as the NT response of its kind has at least (MS-NLMP 3.3.1, 3.3.2): whether it has 24
+-- bytes is all that is asked of it here.
 abbrev pub response_planned : AuthKind → List ℕ
 response_planned V1 = replicate 24 0
 response_planned V1Ess = replicate 24 0
@@ -150,14 +150,14 @@ pub record Succeeds (run : Past) (moves : List Move) (client : ℕ) (can : CanSu
       × (told.member ≡ can.member)
       × (told.outcome ≡ outcome.In can.table.domain can.account.name key)) run.book.told
 
--- it is a schedule, and the moves start clients one at a time, each once at most
+-- the run is of a schedule, and the moves start clients one at a time, each once at most
 pub record ComesOneAtATime (run : Past) (moves : List Move) : Type 0 where
   pub schedule : IsSchedule run.plan moves
   pub plain : AllByRecursion IsPlainMove moves
   pub once : AllPairs (λ (one other : ℕ). one ≢ other) (started_in moves (length run.plan.clients))
   pub quiet : OneAtATime moves (first_world run.plan)
 
--- a Logon call that is made for such a client: its member's computer asks its controller for the user, the domain and
+-- a Logon call that is made for a client: its member's computer asks its controller for the user, the domain and
 -- the workstation of the client's plan
 pub record IsMadeForClient (task : ClientPlan) (computer : List ℕ) (controller : ℕ) (j : Judging) (c : LogonCall) : Type 0 where
   pub its_controller : j.controller ≡ controller
@@ -166,7 +166,8 @@ pub record IsMadeForClient (task : ClientPlan) (computer : List ℕ) (controller
   pub user : c.info.user ≡ task.user
   pub workstation : c.info.workstation ≡ task.workstation
 
--- the session base key of such a call doesn't travel as zeros, where it passed with status 0: a refused one has no key
+-- the session base key of a call for the client doesn't travel as zeros, where it passed with status 0: a refused one
+-- has no key
 abbrev pub KeyArrives : ClientPlan → List ℕ → ℕ → Judging → Type 0
 KeyArrives task computer controller j =
     j.how ≡ Some (judged.Passed 0) →

@@ -66,7 +66,7 @@ abbrev pub IsAck : Body → Type 0
 IsAck (BindAck send receive group results) = Unit {0}
 IsAck _ = ⊥
 
--- those bytes are a bind_ack whose trailer carries that CHALLENGE of this member, link and moment
+-- the bytes are a bind_ack whose trailer carries that CHALLENGE of this member, link and moment
 pub record CarriesIt (w : LinkAt) (before : AtLink) (left : List (List ℕ)) (bytes : List ℕ) (sent : ChallengeSent) : Type 0 where
   pub ack : RpcUnit
   pub trailer : Trailer

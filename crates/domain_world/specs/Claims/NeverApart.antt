@@ -72,8 +72,8 @@ pub record IsAmong (hash : List ℕ) (secrets : SecretsState) : Type 0 where
   pub among : Holds hash secrets
   pub when_alone : secrets.next ≡ None → hash ≡ secrets.current
 
--- The account is there, and its hash is so of the secrets that the member holds, if it hasn't stopped, and of those
--- that it kept, with which it begins anew.
+-- The account is there. Its hash is among the secrets that the member holds, if it hasn't stopped, and among those that
+-- it kept, with which it begins anew.
 pub record IsNeverApart (past : Past) (member : ℕ) (begins : BeginsAlike past.plan member) : Type 0 where
   pub state : ControllerState
   pub at : slice_get past.world.state.ends.controllers begins.controller ≡ Some state

@@ -12,7 +12,7 @@ use Rattle.domain_world.specs.Past.{Past}
 
 -- ---- what controllers keep
 
--- That challenge of the server waits at the controller for that computer.
+-- A server's challenge waits at the controller for that computer.
 pub record WaitsAt (controllers : List ControllerState) (controller : ℕ) (computer server : List ℕ) : Type 0 where
   pub state : ControllerState
   pub running : Running

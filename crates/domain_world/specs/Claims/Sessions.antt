@@ -40,7 +40,7 @@ abbrev pub renewal_by : Option EndId → ℕ → List ControllerRenewed
 renewal_by (Some (Controller controller)) moves = record { moves = moves; controller = controller } ∷ []
 renewal_by _ moves = []
 
--- those of these moves from a world on, before the earlier ones, so that the newest is first
+-- the controllers that these moves made anew from a world on, before the earlier ones, so that the newest is first
 abbrev pub renewals : List Move → World → List ControllerRenewed → List ControllerRenewed
 renewals [] w earlier = earlier
 renewals (what ∷ moves) w earlier = renewals moves (happens w what) (renewal_by (restart_of what w.state) (w.moves + 1) ++ earlier)

@@ -34,7 +34,7 @@ abbrev pub accounts_after : AccountTable → ℕ → List Judging → AccountTab
 accounts_after planned controller [] = planned
 accounts_after planned controller (j ∷ earlier) = accounts_if (j.controller == controller) j (accounts_after planned controller earlier)
 
--- these are a controller's accounts behind those calls
+-- a controller's accounts are those that these calls left, from the plan's on
 abbrev pub IsLeft : Plan → ℕ → List Judging → AccountTable → Type 0
 IsLeft plan controller judgings table = (planned : AccountTable) → slice_get plan.tables controller ≡ Some planned → table ≡ accounts_after planned controller judgings
 

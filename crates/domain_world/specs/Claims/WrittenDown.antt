@@ -33,7 +33,7 @@ pub record IsMessageOf (run : Past) (member place : ℕ) (logon : Logon) (messag
   pub link : message.link ≡ logon.link
   pub before : message.at < run.world.moves
 
--- this member sent it on that link, with that challenge
+-- a CHALLENGE that this member sent on that link, with that challenge
 abbrev pub IsChallengeOf : ℕ → ℕ → List ℕ → ChallengeSent → Type 0
 IsChallengeOf member link challenge sent = (sent.link ≡ link) × (sent.challenge ≡ challenge) × (sent.member ≡ member)
 

@@ -1,4 +1,5 @@
--- A unit that a session opens which may not be the sender's: where it is taken, it is read as before but for its stub.
+-- A unit that is opened by another session than the sender's: where it is taken, it is read as it was sealed, but for
+-- its stub.
 -- Of `keys_may_differ`.
 use Rattle.std.proofs.Common.{◌≡◌, ℕ, ◌≤◌, ◌+◌, ◌-◌, ◌==◌, Bool, true, false, List, ◌++◌, length, take, drop, Option, Some, None, Result, Ok, Err, refl, sym, ap, subst, ◌∙◌, arith}
 use Rattle.std.specs.Prelude.{is_ok}

@@ -70,7 +70,7 @@ pub record KnowsComputer (p : Arrival) : Type 0 where
   pub knows : knows_in p.table.accounts p.meeting.caller.computer ≡ true
   pub found : (client server : List ℕ) → account_for p.table (auth_value p.meeting.caller client server) ≡ Some machine
 
--- it keeps the channel in step
+-- the controller keeps the caller's channel in step with the member's
 pub record KeepsInStep (p : Arrival) (computers : Computers) (o : SecureChannelState) : Type 0 where
   pub channel : SecureChannelState
   pub keeps : lookup same_name p.meeting.caller.computer computers.channels ≡ Some channel
@@ -121,8 +121,8 @@ pub record IsHeard (plan : Plan) (p : Arrival) (s : State) : Type 0 where
 
 -- ---- the phases
 
--- those before the member has the reply to its second call, to the one that sets a secret, or to its third; these
--- replies, whatever they are; and those of a logon that is turned away
+-- The phases before the member has the reply to its second call, to the one that sets a secret, or to its third; these
+-- replies, whatever they are; and the phases of a logon that is turned away.
 pub data AnyPhase (p : Arrival) : Type 0 where
   On : (phase : LogonPhase p) → AnyPhase p
   Told : (a : ClientAnswer) (who : WhoAsked p a) (v : TurnAt) (client server credential : List ℕ) (status : ℕ) → AnyPhase p
@@ -207,7 +207,7 @@ pub record IsGranted (plan : Plan) (p : Arrival) (v : TurnAt) (client server : L
   pub found : account_for p.table (auth_value p.meeting.caller client server) ≡ Some machine
   pub in_step : IsOwn plan p → KeepsInStep p v.computers (fresh_channel p.meeting.caller.secret client server offered_flags)
 
--- what is left when it is over
+-- what is left when a logon is over, whatever it came to
 pub record IsLeft (plan : Plan) (p : Arrival) (e : Settled) : Type 0 where
   pub joined_so : HasJoined p e.links
   pub number_below : e.number < 2 ^ 32
@@ -246,7 +246,7 @@ MayFitAway plan p (Refused a who v o c timestamp accounts status) = ⊥
 MayFitAway plan p (Unheard a who e) = IsLeft plan p e
 MayFitAway plan p (Faulted a later e status) = IsLeft plan p e × (status < 2 ^ 32)
 
--- where there is such an account, the proof of a member with its own name is taken
+-- where the controller has the caller's account, the proof of a member with its own name is taken
 abbrev pub IsProofOwn : Arrival → (client server credential : List ℕ) → ℕ → Type 0
 IsProofOwn p client server credential status =
     (machine : Account) → account_of_caller p.table p.meeting.caller ≡ Some machine → (status ≡ 0) × (credential ≡ server_credential p.meeting.caller.secret client server)
@@ -350,6 +350,6 @@ pub record AnyPhasesGoOn : Type 0 where
       GoesTo plan p (progress_by what at.phase) s (act s what).state ⊎ (IsLetIn plan p s × (what ≡ move.Onward))
   -- something waits in each phase
   pub waits : (plan : Plan) (p : Arrival) (s : State) → IsAnywhere plan p s → s.dials ≡ [] → waiting s.bag ≡ [] → ⊥
-  -- once it is over, moves change nothing of it, and draw no challenge
+  -- once a logon is over, moves change nothing of it, and draw no challenge
   pub rests : (plan : Plan) (p : Arrival) (s : State) (what : Move) → IsStepOn what → IsDone plan p s → IsDone plan p (act s what).state
   pub rests_draws : (plan : Plan) (p : Arrival) (s : State) (what : Move) → IsStepOn what → IsDone plan p s → (act s what).state.chances.left ≡ s.chances.left

@@ -61,7 +61,7 @@ abbrev pub IsReachedOrNot : Plan → ℕ → MemberPlan → ℕ → Type 0
 IsReachedOrNot plan member work controller =
     (end_of_peer work.controller (first_ends plan) ≡ Some (Controller controller)) ⊎ (route_to (Member member) (end_of_peer work.controller (first_ends plan)) ≡ None)
 
--- it can go on, and is in a phase
+-- a logon that has started can go on, and is in a phase
 pub record HasStarted (plan : Plan) (p : Arrival) (s : State) : Type 0 where
   pub able : IsAble plan p
   pub at : IsAnywhere plan p s
@@ -70,7 +70,7 @@ pub record AnyLogonsStart : Type 0 where
   pub starts : (plan : Plan) (s : State) (rest : AtRest plan s) (client member controller : ℕ) (three : AreThree plan client member controller) (account machine : Account) (number : ℕ) → IsPlan plan →
       HasForms plan → chosen_place number (length s.ends.clients) ≡ Some client →
       HasStarted plan (coming_from plan s rest client member controller three account machine) (start number s).state
-  -- once it is over the world rests again, where the others are as they were
+  -- once a logon is over the world rests again, where the others are as they were
   pub ends : (plan : Plan) (s : State) (rest : AtRest plan s) (client member controller : ℕ) (three : AreThree plan client member controller) (account machine : Account) (after : State) →
       IsReachedOrNot plan member three.member_plan controller → OthersStay (three_of client member controller) s after → after.client_plans ≡ s.client_plans →
       IsDone plan (coming_from plan s rest client member controller three account machine) after → AtRest plan after

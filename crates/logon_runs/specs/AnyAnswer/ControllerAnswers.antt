@@ -36,7 +36,7 @@ abbrev pub KeepsBut : List ℕ → Computers → Computers → Type 0
 KeepsBut name later computers =
     (other : List ℕ) → same_name name other ≡ false → lookup same_name other later.channels ≡ lookup same_name other computers.channels
 
--- both challenges may wait then; no channel changes
+-- a controller that answers a NetrServerReqChallenge: both challenges may wait then; no channel changes
 pub record ToldChallenge (table : AccountTable) (name : List ℕ) (computers : Computers) (link now number : ℕ) (caller : Caller) (client server : List ℕ) (left : List (List ℕ)) : Type 0 where
   pub later : Computers
   pub kept : later.channels ≡ computers.channels

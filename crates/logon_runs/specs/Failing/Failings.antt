@@ -69,7 +69,7 @@ settled_at g table name computers how next links = record (with_controller g tab
   links = links;
 }
 
--- it keeps these secrets then
+-- the member keeps these secrets once the logon is over
 abbrev pub settled_with : SecretsState → Meeting → Meeting
 settled_with secrets g = record g { plan = plan_with secrets g.plan }
 

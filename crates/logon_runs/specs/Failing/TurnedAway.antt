@@ -40,7 +40,7 @@ use Rattle.logon_runs.specs.Scenes.Scene.{Scene, Shows}
 use Rattle.logon_runs.specs.Scenes.TurnScenes.{turn_scene, unit_back, with_accounts}
 use Rattle.logon_runs.specs.Scenes.WaitingUnits.{waiting}
 
--- what is left when it is over: the member's secrets and its channel, its next number, all links, and what the
+-- what is left when a logon is over: the member's secrets and its channel, its next number, all links, and what the
 -- controller keeps
 pub record Settled : Type 0 where
   pub secrets : SecretsState
@@ -118,7 +118,7 @@ pub record HasEnded (p : Arrival) (s : State) : Type 0 where
   pub shows : Shows s (rest_scene (settled_in p settled) (client_ended p.meeting.task outcome) settled.links left moment [])
 
 pub record LogonsAreTurnedAway : Type 0 where
-  -- each status of a verdict is such a one
+  -- each status of a verdict is one with which a member refuses
   pub refusals : (p : Arrival) (a : ClientAnswer) (moment status : ℕ) → verdict_of p.table p.name (info_asked (own p) a) moment ≡ verdict.Status status → IsRefusal status
   -- the controller refuses the logon; its table then has other counts of bad passwords
   pub refuses : (p : Arrival) (s : State) (a : ClientAnswer) (who : WhoAsked p a) (v : TurnAt) (o c : SecureChannelState) (timestamp : ℕ) (left : List (List ℕ)) (moment status : ℕ) → IsKnown p →
@@ -135,7 +135,7 @@ pub record LogonsAreTurnedAway : Type 0 where
   pub over : (p : Arrival) (s : State) → IsOver p s → HasEnded p s
   -- each move leads on, or to the end
   pub goes_on : (p : Arrival) (s : State) (what : Move) → IsStepOn what → IsAway p s → IsAway p (act s what).state ⊎ HasEnded p (act s what).state
-  -- it draws no challenge, from the judgement on
+  -- a logon draws no challenge, from the judgement on
   pub judged_draws : (p : Arrival) (s : State) (a : ClientAnswer) (who : WhoAsked p a) (v : TurnAt) (o c : SecureChannelState) (timestamp : ℕ) (left : List (List ℕ)) (moment status : ℕ) →
       (known : IsKnown p) (fits : Fits p (Calls a who v (Third o c timestamp))) → (is : verdict_of v.table p.name (info_asked (own p) a) moment ≡ verdict.Status status) →
       Shows s (scene_of p (Calls a who v (Third o c timestamp)) left moment) → (onward s).state.chances.left ≡ s.chances.left
@@ -143,5 +143,5 @@ pub record LogonsAreTurnedAway : Type 0 where
   pub over_draws : (p : Arrival) (s : State) (what : Move) → IsStepOn what → HasEnded p s → (act s what).state.chances.left ≡ s.chances.left
   -- something waits
   pub waits : (p : Arrival) (s : State) → IsAway p s → s.dials ≡ [] → waiting s.bag ≡ [] → ⊥
-  -- once it is over, moves change nothing of it
+  -- once a logon is over, moves change nothing of it
   pub rests : (p : Arrival) (s : State) (what : Move) → IsStepOn what → HasEnded p s → HasEnded p (act s what).state

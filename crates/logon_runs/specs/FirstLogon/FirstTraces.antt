@@ -52,8 +52,8 @@ use Rattle.logon_runs.specs.Scenes.TurnScenes.{TurnScene, dial_scene, next_turn,
 
 -- ---- a turn
 
--- Its bind, the answer, its call and the reply, by a move each. With the reply the controller keeps this of computers,
--- and has the accounts of the later turn.
+-- A turn: its bind, the answer, its call and the reply, by a move each. With the reply the controller keeps `kept` of
+-- computers, and has the accounts of the later turn.
 pub record TurnSeen (s : State) (t later : TurnScene) (next number : ℕ) (c : Call) (r : Reply) (computers kept : Computers) (left rest : List (List ℕ)) (moment : ℕ) : Type 0 where
   pub bind : Shows (connects s)
       (turn_scene t next number (step.Bind c) computers (one_link t.link first_talk) (unit_there t (written (bind_of netlogon_syntax number)) ∷ []) left moment)

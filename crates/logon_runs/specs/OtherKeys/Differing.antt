@@ -35,7 +35,7 @@ use Rattle.logon_steps.specs.Meeting.{bound_for}
 abbrev pub single_unit : ℕ → Body → Option Trailer → RpcUnit
 single_unit call body trailer = record { first = true; last = true; call = call; body = body; trailer = trailer }
 
--- the bytes are such a unit, whichever it is
+-- the bytes are one unit that is whole, whatever its call, body and trailer
 pub record IsSingle (bytes : List ℕ) : Type 0 where
   pub call : ℕ
   pub body : Body
@@ -74,12 +74,12 @@ pub record IsLetIn (task : ClientPlan) (sent : ℕ) (on : LoggedOn) : Type 0 whe
 
 -- ---- a request comes to the member
 
--- it closes the link
+-- the member closes the link at these bytes
 pub record IsShut (on : LoggedOn) (bytes : List ℕ) : Type 0 where
   pub cause : CloseCause
   pub shuts : (at : AtLink) → unit_in (is_plain on.bound.level) bytes on None at ≡ shut cause at
 
--- or it answers, by a response or a fault
+-- the member answers these bytes, by a response or a fault
 pub record IsReplied (task : ClientPlan) (sent : ℕ) (on : LoggedOn) (bytes : List ℕ) : Type 0 where
   pub reply : List ℕ
   pub later : LoggedOn
@@ -96,7 +96,7 @@ pub record HasItsOutcome (task : ClientPlan) (terms : Terms) (question : Questio
       client.step_of (client_at task (on_link link (client_phase.Asked terms question))) (event.Bytes link bytes) now left
       ≡ whole_step left left (action.Close link close.CallDone ∷ []) (client_ended task outcome)
 
--- or it has a name, and sends Echo
+-- the client reads a name in these bytes, and sends Echo
 pub record AsksEcho (task : ClientPlan) (sent : ℕ) (terms : Terms) (question : Question) (bytes : List ℕ) : Type 0 where
   pub name : List ℕ
   pub later : Terms

@@ -45,7 +45,7 @@ judged_scene p a who v o c timestamp accounts r left moment =
     turn_scene (judged_turn p a who v o c timestamp accounts) (next_number v.next) v.next (step.Reply question.Logon) v.computers (turn_link (length v.links))
     (unit_back (judged_turn p a who v o c timestamp accounts) (reply_bytes v.next r) ∷ []) left moment
 
--- what is left of it then: the member's channel has that state
+-- what is left of a logon once it was judged: the member's channel has that state
 abbrev pub judged_rest : (p : Arrival) (a : ClientAnswer) → WhoAsked p a → TurnAt → SecureChannelState → SecureChannelState → ℕ → AccountTable → SecureChannelState → Settled
 judged_rest p a who v o c timestamp accounts o_then = record {
   secrets = v.secrets;

@@ -80,7 +80,7 @@ FitsLetIn g (Asks terms question on bytes) =
 FitsLetIn g (Hears terms question on bytes) =
     IsSingle bytes × AreTerms (asked_by question) terms × IsLetIn g.task (asked_by question) on
 
--- the state is in such a phase, with these challenges left
+-- the state is in a phase in which the client is let in and asks, with these challenges left
 pub record IsOnLink (g : Meeting) (left : List (List ℕ)) (s : State) : Type 0 where
   pub can : CanLogOn g.task
   pub joined : IsJoined g
@@ -118,5 +118,5 @@ pub record GrantsGoOn : Type 0 where
   pub waits : (g : Meeting) (left : List (List ℕ)) (s : State) → IsOnLink g left s → waiting s.bag ≡ [] → ⊥
   pub alone : (g : Meeting) (left : List (List ℕ)) (s : State) → IsOnLink g left s →
       AreAmong (three_of g.at_client g.at_member g.at_controller) s.open_links × (s.dials ≡ [])
-  -- once it is over, moves change nothing of it
+  -- once a logon is over, moves change nothing of it
   pub rests : (g : Meeting) (left : List (List ℕ)) (s : State) (what : Move) → IsStepOn what → HasEndedAt g left s → HasEndedAt g left (act s what).state

@@ -78,7 +78,7 @@ pub record Meeting : Type 0 where
 abbrev pub IsJoined : Meeting → Type 0
 IsJoined g = slice_get g.links g.link ≡ Some (ToMember g.at_client g.at_member)
 
--- it alone is open, at both sides
+-- the client's link alone is open, at both sides
 abbrev pub its_link : Meeting → OpenMap
 its_link g = (g.link, record { route = ToMember g.at_client g.at_member; dialler = true; acceptor = true }) ∷ []
 

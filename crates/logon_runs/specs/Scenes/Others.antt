@@ -63,7 +63,7 @@ abbrev pub IfSo : Bool → Type 0 → Type 0
 IfSo false Fact = Unit {0}
 IfSo true Fact = Fact
 
--- all other ends are as before, and the links that are open are between the three
+-- all ends but the three are as they were, and the links that are open are between the three
 pub record OthersStay (t : Three) (s after : State) : Type 0 where
   pub controllers : (at : ℕ) → at ≢ t.controller → slice_get after.ends.controllers at ≡ slice_get s.ends.controllers at
   pub members : (at : ℕ) → at ≢ t.member → slice_get after.ends.members at ≡ slice_get s.ends.members at

@@ -64,7 +64,7 @@ pub record SetsAreSeen : Type 0 where
       Shows (onward s).state
       (waiting_scene t (take_out same_number t.link t.opened) (standing.Open (after_call o (timestamp_of moment))) (after next) next
       (step.Set (set_step.Bind (change_call t.caller o (timestamp_of moment) new))) computers [] left moment)
-  -- it opens under the next one, which is the one secret then
+  -- the channel opens under the next secret, which is the one secret then
   pub opened_next : (s : State) (t : TurnScene) (next number flags : ℕ) (client server current new : List ℕ) (computers : Computers) (left : List (List ℕ)) (moment : ℕ) → IsBetween t → number < 2 ^ 32 →
       t.how ≡ standing.Half client server → t.plan.secrets ≡ record { current = current; next = Some (record { secret = new; is_tried = true }) } →
       (has_flag offered_flags flags && has_flag flags rc4_flag) ≡ true →

@@ -7,7 +7,7 @@ use Rattle.world_moves.specs.Ends.{EndStates}
 use Rattle.world_moves.specs.MemberPlans.{AreAlikeButSecrets}
 use Rattle.world_moves.specs.Moving.{act, end_of_peer}
 
--- as many ends of each kind
+-- there are as many ends of each kind afterwards as before
 pub record AreAsMany (ends after : EndStates) : Type 0 where
   pub controllers : length after.controllers ≡ length ends.controllers
   pub members : length after.members ≡ length ends.members

@@ -40,7 +40,7 @@ pub record IsOldest (bag : List BagUnit) (unit : BagUnit) (later : List BagUnit)
   pub there : slice_get bag number ≡ Some unit
   pub behind : waiting (settle_at number bag) ≡ later
 
--- it comes at that end
+-- a unit that waits comes at that end
 pub record Comes (s : State) (unit : BagUnit) (later : List BagUnit) (end : EndId) : Type 0 where
   pub number : ℕ
   pub state : (onward s).state ≡ (hear_and_act end (event.Bytes unit.link unit.bytes) (settle number s)).state

@@ -83,7 +83,8 @@ next_unbarred checks shown next barred =
     barred.fails (subst (λ (g : Authenticator). Passes (key_of_channel barred.channel) barred.channel.seed g) (one_some next.given barred.given next.there barred.there)
     (subst (λ (one : SecureChannelState). Passes (key_of_channel one) one.seed next.given) (one_some next.channel barred.channel next.stands barred.stands) next.passes))
 
--- it is the next one likewise where the controller's computers are asked, of which one is named
+-- an authenticator that is the next one of the channel on which it is checked is the next one of the computer's channel
+-- among those that the controller keeps
 pub next_of : (computer : Option (List ℕ)) (computers : Computers) (shown : Option Authenticator) → IsNextOn (checked_on computer computers) shown → IsNext computers computer shown
 next_of None computers shown next = absurd (none_some refl next.stands)
 next_of (Some computer) computers shown next =

@@ -158,7 +158,7 @@ next_leaves : (idle : Bool) (trusts : List Trust) (now : ℕ) (parts : Parts) (l
 next_leaves false trusts now parts left = no_dial_more parts
 next_leaves true trusts now parts left = at_leaves (first_waiting parts.work.queues.requesters) trusts now parts left
 
--- such a dial is of a turn
+-- the dial that a turn asks for is an action of a turn
 dial_adds : (dial : Option (List ℕ)) (old : List Action) → AddsTo IsOfTurn old (old ++ dial_of dial)
 dial_adds None old = subst (λ (all : List Action). AddsTo IsOfTurn old all) (sym (append-nil old)) (adds_none IsOfTurn old)
 dial_adds (Some peer) old = adds_one IsOfTurn old (action.Dial peer) (record { text = λ text. refl; told = refl })

@@ -29,8 +29,8 @@ use Rattle.step_notes.proofs.Controllers.TrustNotedLaws.{TrustNotedFact, TrustSt
 
 -- ---- a logon for a trust
 
--- It is told to have passed, whether its controller is asked or nobody is, and never with status 0. The accounts stay,
--- the channel has moved on, and nothing else is told.
+-- A logon for a trust is told to have passed, whether that domain's controller is asked or nobody is, and never with
+-- status 0. The accounts stay, the channel has moved on, and nothing else is told.
 pub record IsTrusted (c : JudgedCall) (d after : TrustDesk) : Type 0 where
   pub goes : IsForTrust c d
   pub table : after.table ≡ d.table

@@ -249,7 +249,7 @@ module _ (c : Requester) (unit : RpcUnit) (place : ℕ) (verdict : Verdict) wher
 -- ---- the reply that says that a secret is set
 
 -- The turn waited for the reply to a call that sets a secret, on a channel that stood; the unit has its number, and
--- such a reply is read in it.
+-- a reply to a call that sets a secret is read in it.
 pub record IsSetAnswerOf (c : Requester) (unit : RpcUnit) : Type 0 where
   pub pending : Pending
   pub turn : c.turn ≡ Some pending

@@ -472,7 +472,7 @@ module _ (P : Mark → List ℕ → Type 0) where
 
   -- ---- a member's step
 
-  -- nothing is marked, or the link is such a one and what is sent for the marks goes first
+  -- nothing is marked; or `Own` holds of the link, and what is sent there for the marks goes first
   abbrev pub SendsIf : Type 0 → ℕ → List Mark → List Action → Type 0
   SendsIf Own link marks actions = (marks ≡ []) ⊎ (Own × SendsFirst link marks actions)
 

@@ -107,7 +107,7 @@ HasFree member messages place logon = OneOf (IsFree member place logon) messages
 abbrev pub Any : ℕ → Type 0
 Any number = Unit {0}
 
--- so it is of each logon that members keep
+-- each logon that members keep is that of a message whose answer wasn't taken yet
 abbrev pub KeepFree : List MemberState → List MessageTaken → Type 0
 KeepFree members messages = (k : ℕ) (m : MemberState) → slice_get members k ≡ Some m → KeptIn (HasFree k messages) Any m.running
 

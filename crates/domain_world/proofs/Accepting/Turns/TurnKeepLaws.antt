@@ -1,6 +1,6 @@
--- Through all moves, the answer of each message was taken in its turn, its outcome is told, and whoever is let in is so
--- by such an answer: three of the facts of `UnitsAreHeard`. What they rest on is `TurnSide` of TurnSideLaws.
--- It serves `schedules_are_heard`.
+-- Through all moves, the answer of each message was taken in its turn, its outcome is told, and whoever is let in is
+-- let in by an answer that was taken in its turn: three of the facts of `UnitsAreHeard`. What they rest on is
+-- `TurnSide` of TurnSideLaws. It serves `schedules_are_heard`.
 use Rattle.std.proofs.Common.{◌≡◌, ℕ, zero, suc, ◌+◌, List, [], ◌∷◌, map, length, Some, refl, sym, subst, ◌∙◌, slice_get, true, false, ◌++◌}
 use Rattle.std.proofs.lemmas.List.{append-nil, length-set}
 use Rattle.std.specs.List.{AllByRecursion}

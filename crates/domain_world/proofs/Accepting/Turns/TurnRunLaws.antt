@@ -105,7 +105,7 @@ rests_on plan n s given b known few =
 abbrev pub TurnSide : Plan → RunFact
 TurnSide plan = BothFacts (Known plan) (WhileFew most_steps (TurnsHold plan))
 
--- nothing is asked of actions for the latter
+-- what is known of actions; `TurnsHold` asks nothing of them
 abbrev pub TurnAction : ActionFact
 TurnAction = BothFine KnownAction AnyAction
 

@@ -1,5 +1,5 @@
--- At the end of a move what is known of the calls of a requester's turns is known with the turns of the move written
--- down: it dialled once at most, and then its dial waits. So it is known after a run, if each step keeps it.
+-- At the end of a move, and after a run if each step keeps it, what is known of the calls of a requester's turns is
+-- known with the turns of the move written down: it dialled once at most, and then its dial waits.
 -- It serves `Proved.sequences`.
 use Rattle.std.proofs.Common.{◌≡◌, ℕ, ◌≤◌, List, [], ◌++◌, inl, inr, Some, None, sym, ap, ◌∙◌, arith}
 use Rattle.channel_events.specs.Marks.{Mark}

@@ -1,4 +1,4 @@
--- Those before have their forms.
+-- The members before the one that is looked at have their forms.
 use Rattle.std.proofs.Common.{All, take}
 use Rattle.world_moves.specs.Forms.{IsMemberPlan}
 use Rattle.world_moves.proofs.forms.members_have_forms.Given as goal

@@ -1,4 +1,4 @@
--- Those before have their forms.
+-- The tables before the one that is looked at have their forms.
 use Rattle.std.proofs.Common.{All, take}
 use Rattle.world_moves.specs.Forms.{IsTable}
 use Rattle.world_moves.proofs.forms.tables_have_forms.Given as goal
