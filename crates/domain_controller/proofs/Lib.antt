@@ -19,6 +19,8 @@ pub mod SealAnswerLaws
 pub mod SealBindLaws
 pub mod SealChoiceLaws
 pub mod SealJudgeLaws
+pub mod SealNumberLaws
+pub mod SealReplayLaws
 pub mod SealReplyLaws
 pub mod SealRestLaws
 pub mod SealRuleLaws

@@ -1,6 +1,6 @@
 -- How a call on a secure channel is judged at a controller that can seal, by the link on which it came. It serves
 -- `calls_pass_on_their_own_links`.
-use Rattle.std.proofs.Common.{◌≡◌, ◌↔◌, ◌&&◌, ℕ, Bool, true, false, List, [], ◌∷◌, ◌++◌, Option, Some, None, is_none, Result, Ok, Err, refl, sym, ap, subst, ◌∙◌, append_assoc}
+use Rattle.std.proofs.Common.{◌≡◌, ◌↔◌, ◌&&◌, ℕ, Bool, true, false, List, [], ◌∷◌, ◌++◌, Option, Some, None, is_none, refl, sym, ap, subst, ◌∙◌, append_assoc}
 use Rattle.std.specs.List.{AllByRecursion}
 use Rattle.std.proofs.lemmas.Slice.Eq.{bytes_eq-Decides}
 use Rattle.std.proofs.lemmas.List.Concat.{flat_map-append}
@@ -19,12 +19,12 @@ use Rattle.logon_stubs.specs.Status.{no_logon_servers}
 use Rattle.channel_client.specs.State.{Requester}
 use Rattle.controller_calls.specs.Asking.{answer_judged, refuse_asked}
 use Rattle.controller_calls.specs.Calls.{asked_of, computer_named, given_in}
-use Rattle.controller_calls.specs.Desk.{Desk, desk, put_channel, take_channel}
+use Rattle.controller_calls.specs.Desk.{Desk, desk, take_channel}
 use Rattle.controller_calls.specs.Doing.{Done, done_asked, how_refused, kept_asked, move_on, refused_on, refused_stub}
 use Rattle.controller_calls.specs.Handing.{CallPlace, hand_on, trust_asked}
 use Rattle.controller_calls.specs.Passing.{IsKeep, IsNext, is_passed}
 use Rattle.controller_calls.specs.Seals.{belongs, is_on, seal_reply, stands}
-use Rattle.controller_calls.specs.Unsent.{Unsent, call_unsent, named_unsent, on_unsent, owned_unsent, pass_or_hand_unsent, pass_unsent, refuse_unsent, returned_unsent, told_unasked, unasked_stub}
+use Rattle.controller_calls.specs.Unsent.{Unsent, call_unsent, named_unsent, on_unsent, owned_unsent, pass_or_hand_unsent, refuse_unsent, returned_unsent, told_unasked, unasked_stub}
 use Rattle.controller_calls.specs.declared.calls.Asked.{Asked}
 use Rattle.controller_calls.specs.declared.calls.Asked.TheVariants as asked
 use Rattle.controller_calls.specs.declared.calls.JudgedCall.{JudgedCall}
@@ -41,7 +41,7 @@ use Rattle.controller_calls.proofs.OutcomeLaws.{IsRefusedAs, JudgedComes, Passes
 use Rattle.controller_calls.proofs.RefusalLaws.{none_taken, put_back}
 use Rattle.domain_controller.specs.Forwarding.{TrustDesk, answer_trust_call, ask_trust, base_desk, fits_on, place_of_call}
 use Rattle.domain_controller.specs.SealJudging.{IsBarredOn, IsJudgedOn, IsNextOn, IsOnOwnLink}
-use Rattle.domain_controller.specs.SealServing.{SealDesk, SealedPart, after_unsent, answer_owned, forward_sealed, judge_sealed, judge_unsent, reply_sealed, send_sealed, unasked_sealed, wait_or_leave_sealed, wait_sealed}
+use Rattle.domain_controller.specs.SealServing.{SealedPart, after_unsent, answer_owned, forward_sealed, judge_sealed, judge_unsent, reply_sealed, send_sealed, unasked_sealed, wait_or_leave_sealed}
 use Rattle.domain_controller.specs.Sealing.{with_seals}
 use Rattle.domain_controller.specs.Sessions.{told_among, told_in}
 use Rattle.domain_controller.specs.declared.sealed.Sealing.{Sealing}
@@ -61,11 +61,11 @@ both_are true true is = (refl, refl)
 both_are true false is = absurd (let x = is in cc)
 both_are false other is = absurd (let x = is in cc)
 
-own_from : (link : Option LinkSeal) (computer : List ℕ) (seals : ChannelSeals) → is_on link computer seals ≡ true → IsOnOwnLink link computer seals
+pub own_from : (link : Option LinkSeal) (computer : List ℕ) (seals : ChannelSeals) → is_on link computer seals ≡ true → IsOnOwnLink link computer seals
 own_from None computer seals is = none_is (lookup same_name computer seals.kept) is
 own_from (Some link) computer seals is = both_are (same_name computer link.computer) (stands link seals) is
 
-own_so : (link : Option LinkSeal) (computer : List ℕ) (seals : ChannelSeals) → IsOnOwnLink link computer seals → is_on link computer seals ≡ true
+pub own_so : (link : Option LinkSeal) (computer : List ℕ) (seals : ChannelSeals) → IsOnOwnLink link computer seals → is_on link computer seals ≡ true
 own_so None computer seals is = ap (λ (found : Option KeptSeal). is_none found) is
 own_so (Some link) computer seals is = ap (λ (one : Bool). one && stands link seals) is.0 ∙ is.1
 

@@ -1,6 +1,6 @@
 -- What the units of a link have told at a controller that can seal, and the steps that serve them. It serves
 -- `calls_pass_on_their_own_links`.
-use Rattle.std.proofs.Common.{◌≡◌, ◌==◌, ◌&&◌, ℕ, Bool, true, false, List, [], ◌∷◌, ◌++◌, Option, Some, None, Result, Ok, Err, refl, sym, ap, subst, ◌∙◌, append-nil, append_assoc, inl, inr}
+use Rattle.std.proofs.Common.{◌≡◌, ◌&&◌, ℕ, Bool, true, false, List, [], ◌∷◌, ◌++◌, Option, Some, None, Result, Ok, Err, refl, sym, ap, subst, ◌∙◌, append-nil, append_assoc, inl, inr}
 use Rattle.std.proofs.lemmas.Bool.{cases_Bool}
 use Rattle.std.proofs.lemmas.List.Concat.{flat_map-append}
 use Rattle.wire_base.specs.Maps.{lookup, same_number, take_out}
@@ -33,19 +33,18 @@ use Rattle.rpc_units.specs.declared.unit.Trailer.{Trailer}
 use Rattle.rpc_units.specs.declared.unit.Unit.{Unit as RpcUnit}
 use Rattle.end_links.specs.Agreed.{Agreed}
 use Rattle.end_links.specs.Links.{LinkState}
-use Rattle.end_links.specs.Serving.{Server, ServedPart, ServedUnit, served_cut, served_units}
+use Rattle.end_links.specs.Serving.{Server, ServedUnit, served_cut, served_units}
 use Rattle.end_links.proofs.KeepLaws.{HoldsThen, KeepsServing, served_keeps, unit_served}
 use Rattle.channel_sealing.specs.Frames.{range_of}
 use Rattle.channel_sealing.specs.Names.{bind_names_of}
 use Rattle.channel_sealing.specs.Parts.{is_own_trailer, part_if}
-use Rattle.channel_sealing.specs.declared.parts.SealedPart.{SealedPart}
 use Rattle.channel_sealing.specs.declared.parts.SealedPart.TheVariants as part
 use Rattle.channel_turns.specs.Turning.{is_on}
 use Rattle.controller_calls.specs.Calls.{computer_named}
-use Rattle.controller_calls.specs.Granting.{answer_granting, answer_opened, channel_opened, secure_flags, seals_opened}
-use Rattle.controller_calls.specs.Desk.{desk, send_reply, take_pair}
+use Rattle.controller_calls.specs.Granting.{answer_opened, channel_opened, secure_flags, seals_opened}
+use Rattle.controller_calls.specs.Desk.{send_reply, take_pair}
 use Rattle.controller_calls.specs.Opening.{put_pair_if}
-use Rattle.controller_calls.specs.Seals.{belongs, is_of, is_on as on_link, link_bound, open_found, open_unit, opened_bytes, stands}
+use Rattle.controller_calls.specs.Seals.{belongs, is_of, link_bound, open_found, opened_bytes, stands}
 use Rattle.controller_calls.specs.declared.calls.ControllerCall.{ControllerCall}
 use Rattle.controller_calls.specs.declared.calls.ControllerCall.TheVariants as call
 use Rattle.controller_calls.specs.declared.calls.JudgedCall.{JudgedCall}
@@ -57,18 +56,18 @@ use Rattle.controller_calls.specs.declared.state.Computers.{Computers}
 use Rattle.controller_calls.specs.declared.state.Work.{Work}
 use Rattle.controller_calls.proofs.OutcomeLaws.{challenge_reply, one_channel, one_given, pair_for}
 use Rattle.controller_calls.proofs.StandingLaws.{replaced_stay}
-use Rattle.domain_controller.specs.Forwarding.{TrustDesk, trust_desk}
-use Rattle.domain_controller.specs.Hearing.{hear, hear_bound, hear_fresh, hear_read}
-use Rattle.domain_controller.specs.SealHearing.{bind_by, bind_with, hear_bytes, hear_opened, hear_plain, hear_unit, hear_unsealed, open_part, open_range, open_request, opens_channel, range_to_open, seal_bound, seal_fresh, seal_hear, seal_read}
-use Rattle.domain_controller.specs.SealJudging.{AddsAsJudged, AreToldInOrder, HearsCall, HearsOpened, IfServed, IsJudgedOn, IsOpened, IsNextOn, JudgesByLink, OpensFor, PassesFor, SeedsMoveByPassing, TellsAsJudged, TellsBySealing, call_asked, call_heard, channel_at, desk_at, opening_asked, opening_heard, plain_bytes}
-use Rattle.domain_controller.specs.SealServing.{SealDesk, SealPart, by_seal_call, by_seal_heard, draw_confounder, judge_on_link, judge_sealed, open_secure, seal_desk, seal_server, serve_sealing}
+use Rattle.domain_controller.specs.Forwarding.{TrustDesk}
+use Rattle.domain_controller.specs.Hearing.{hear_fresh, hear_read}
+use Rattle.domain_controller.specs.SealHearing.{bind_by, bind_with, hear_bytes, hear_unsealed, open_part, open_range, open_request, opens_channel, range_to_open, seal_bound, seal_fresh, seal_hear, seal_read}
+use Rattle.domain_controller.specs.SealJudging.{AddsAsJudged, AreToldInOrder, HearsCall, HearsOpened, IfServed, IsJudgedOn, IsOpened, IsNextOn, JudgesByLink, OpensFor, PassesFor, SeedsMoveByPassing, TellsBySealing, call_asked, call_heard, channel_at, desk_at, opening_asked, opening_heard, plain_bytes}
+use Rattle.domain_controller.specs.SealServing.{SealDesk, SealPart, by_seal_call, by_seal_heard, draw_confounder, judge_on_link, judge_sealed, seal_desk, seal_server, serve_sealing}
 use Rattle.domain_controller.specs.SealStep.{SealParts, SealStepPart, by_seal_event, seal_after_units, seal_event_and_turn, seal_put_open, seal_serve_bytes, seal_serve_on, seal_state_after, seal_step_of, seal_step_on, step_with}
 use Rattle.domain_controller.specs.Sealing.{link_sealed, seal_of_link, with_seals}
 use Rattle.domain_controller.specs.Sessions.{told_among, told_in}
 use Rattle.domain_controller.specs.State.{State}
 use Rattle.domain_controller.specs.Step.{LinkMap}
 use Rattle.domain_controller.specs.TrustActions.{dial_of}
-use Rattle.domain_controller.specs.TrustStep.{is_idle, link_with, next_turn, parts_of, put_open, trust_halted}
+use Rattle.domain_controller.specs.TrustStep.{is_idle, link_with, next_turn, parts_of, trust_halted}
 use Rattle.domain_controller.specs.declared.hearing.Heard.{Heard}
 use Rattle.domain_controller.specs.declared.hearing.Heard.TheVariants as heard
 use Rattle.domain_controller.specs.declared.seal_hearing.SealHeard.{SealHeard}
@@ -196,12 +195,12 @@ module _ (link : LinkSeal) (number : ℕ) (bytes : List ℕ) (talk : Talk) (seal
       ∙ ap (λ (opened : Option (List ℕ)). call_heard (hear_bytes opened number talk)) (is_opened o)
       ∙ hears.found
 
-hears_from : (link : Option LinkSeal) (number : ℕ) (bytes : List ℕ) (talk : Talk) (seals : ChannelSeals) (c : JudgedCall) →
+pub hears_from : (link : Option LinkSeal) (number : ℕ) (bytes : List ℕ) (talk : Talk) (seals : ChannelSeals) (c : JudgedCall) →
     call_heard (seal_hear number bytes talk link seals).heard ≡ Some c → HearsCall link number bytes talk seals c
 hears_from None number bytes talk seals c hears = sym (clear_heard (unit_of bytes) number bytes talk seals) ∙ hears
 hears_from (Some link) number bytes talk seals c hears = opened_read link number bytes talk seals c (unit_of bytes) refl hears
 
-hears_so : (link : Option LinkSeal) (number : ℕ) (bytes : List ℕ) (talk : Talk) (seals : ChannelSeals) (c : JudgedCall) →
+pub hears_so : (link : Option LinkSeal) (number : ℕ) (bytes : List ℕ) (talk : Talk) (seals : ChannelSeals) (c : JudgedCall) →
     HearsCall link number bytes talk seals c → call_heard (seal_hear number bytes talk link seals).heard ≡ Some c
 hears_so None number bytes talk seals c hears = clear_heard (unit_of bytes) number bytes talk seals ∙ hears
 hears_so (Some link) number bytes talk seals c hears = hears_sealed link number bytes talk seals c hears
@@ -275,31 +274,42 @@ bound_alike (Some link) number s = refl
 -- ---- what is told of a unit, by what is heard in it
 
 -- what is left of the channels where no call on one came: an opening may replace that of its computer
-abbrev OpeningLeaves : Option AuthCall → Work → Work → Type 0
-OpeningLeaves None before after = after.computers.channels ≡ before.computers.channels
-OpeningLeaves (Some c) before after =
-    (other : List ℕ) → same_name c.computer other ≡ false → lookup same_name other after.computers.channels ≡ lookup same_name other before.computers.channels
+-- the call isn't refused, and is for that computer
+record Replaces (c : AuthCall) (table : AccountTable) (before : Work) (computer : List ℕ) : Type 0 where
+  channel : SecureChannelState
+  opens : channel_opened secure_flags table c before.computers ≡ Ok channel
+  its : same_name c.computer computer ≡ true
 
-abbrev ToldBy : Option JudgedCall → Option AuthCall → Option LinkSeal → ChannelSeals → Work → Work → Type 0
-ToldBy None opening link seals before after = Adds before.actions after.actions [] × OpeningLeaves opening before after
-ToldBy (Some c) opening link seals before after = ToldOn link c seals before after
+abbrev OpeningLeaves : Option AuthCall → AccountTable → Work → Work → Type 0
+OpeningLeaves None table before after = after.computers.channels ≡ before.computers.channels
+OpeningLeaves (Some c) table before after =
+    (other : List ℕ) → (Replaces c table before other → ⊥) → lookup same_name other after.computers.channels ≡ lookup same_name other before.computers.channels
+
+abbrev ToldBy : Option JudgedCall → Option AuthCall → Option LinkSeal → ChannelSeals → AccountTable → Work → Work → Type 0
+ToldBy None opening link seals table before after = Adds before.actions after.actions [] × OpeningLeaves opening table before after
+ToldBy (Some c) opening link seals table before after = ToldOn link c seals before after
 
 -- it still can seal
-abbrev Seals : Option Sealing → Type 0
+abbrev pub Seals : Option Sealing → Type 0
 Seals sealing = (s : Sealing) × (sealing ≡ Some s)
 
 abbrev PartTold : Option JudgedCall → Option AuthCall → Option LinkSeal → TrustDesk → ChannelSeals → List (List ℕ) → SealPart → Type 0
 PartTold of opening link d seals left (Err why) = left ≡ []
-PartTold of opening link d seals left (Ok done) = ToldBy of opening link seals d.work.work done.value.0.desk.work.work × Seals done.value.0.sealing
+PartTold of opening link d seals left (Ok done) = ToldBy of opening link seals d.table d.work.work done.value.0.desk.work.work × Seals done.value.0.sealing
 
-opened_told : (opened : Result SecureChannelState ℕ) (line : Line) (c : AuthCall) (link : Option LinkSeal) (seals : ChannelSeals) (work : Work) →
-    ToldBy None (Some c) link seals work (answer_opened opened secure_flags line c (take_pair c.computer work))
-opened_told (Err status) line c link seals work = (record { new = _; is = refl; tells = refl }, λ other differ. refl)
-opened_told (Ok channel) line c link seals work =
-    (record { new = _; is = refl; tells = refl }, λ other differ. put_others same_name c.computer other channel work.computers.channels IsSameness-same_name differ)
+opened_told : (opened : Result SecureChannelState ℕ) (line : Line) (c : AuthCall) (link : Option LinkSeal) (seals : ChannelSeals) (table : AccountTable) (work : Work) →
+    channel_opened secure_flags table c work.computers ≡ opened → ToldBy None (Some c) link seals table work (answer_opened opened secure_flags line c (take_pair c.computer work))
+opened_told (Err status) line c link seals table work is = (record { new = _; is = refl; tells = refl }, λ other none. refl)
+opened_told (Ok channel) line c link seals table work is = (
+  record { new = _; is = refl; tells = refl },
+  λ other none. elim (cases_Bool (same_name c.computer other)) [
+    | inl same ↦ absurd (none (record { channel = channel; opens = is; its = same }))
+    | inr differ ↦ put_others same_name c.computer other channel work.computers.channels IsSameness-same_name differ
+  ],
+)
 
 challenge_told : (knows : Bool) (d : TrustDesk) (line : Line) (c : ChallengeCall) (server : List ℕ) (link : Option LinkSeal) (seals : ChannelSeals) →
-    ToldBy None None link seals d.work.work (send_reply (put_pair_if knows c.computer (pair_for c server) d.work.work) line (challenge_reply server))
+    ToldBy None None link seals d.table d.work.work (send_reply (put_pair_if knows c.computer (pair_for c server) d.work.work) line (challenge_reply server))
 challenge_told true d line c server link seals = (record { new = _; is = refl; tells = refl }, refl)
 challenge_told false d line c server link seals = (record { new = _; is = refl; tells = refl }, refl)
 
@@ -322,7 +332,7 @@ call_told (call.Challenge c) link line talk name now d s [] seals same = refl
 call_told (call.Challenge c) link line talk name now d s (server ∷ left) seals same = (challenge_told (knows_in d.table.accounts c.computer) d line c server link seals, (s, refl))
 call_told (call.Authenticate c) link line talk name now d s left seals same =
     let opened = channel_opened secure_flags d.table c d.work.work.computers in
-    (opened_told opened line c link seals d.work.work, (with_seals (seals_opened opened secure_flags c s.seals) s, refl))
+    (opened_told opened line c link seals d.table d.work.work refl, (with_seals (seals_opened opened secure_flags c s.seals) s, refl))
 call_told (call.Judged c) link line talk name now d s left seals same = judged_told link c line talk name now d s left seals (same (computer_named c))
 
 heard_told : (h : Heard) (link : Option LinkSeal) (number : ℕ) (name : List ℕ) (now : ℕ) (d : TrustDesk) (s : Sealing) (left : List (List ℕ)) (seals : ChannelSeals) →
@@ -342,7 +352,7 @@ module _ (name : List ℕ) (now number : ℕ) (bytes : List ℕ) (d : TrustDesk)
   abbrev its_heard : Heard
   its_heard = (seal_hear number bytes talk its_link s.seals).heard
 
-  abbrev its_part : SealPart
+  abbrev pub its_part : SealPart
   its_part = serve_sealing (Some s) number bytes talk name now d left
 
   unit_told : PartTold (call_heard its_heard) (opening_heard its_heard) its_link d s.seals left its_part
@@ -351,7 +361,7 @@ module _ (name : List ℕ) (now number : ℕ) (bytes : List ℕ) (d : TrustDesk)
       heard_told h.heard its_link number name now d (link_sealed h.bound number (with_seals h.seals s)) left s.seals
       (λ named. ap (λ (one : ChannelSeals). belongs its_link named one) (bound_alike h.bound number (with_seals h.seals s)) ∙ belongs_alike its_link number bytes talk s.seals named)
 
-  abbrev Added : List Action → Type 0
+  abbrev pub Added : List Action → Type 0
   Added after = AddsAsJudged number bytes talk d s after
 
   -- it is that call
@@ -360,7 +370,7 @@ module _ (name : List ℕ) (now number : ℕ) (bytes : List ℕ) (d : TrustDesk)
       let both : Some one ≡ Some c = sym is ∙ hears_so its_link number bytes talk s.seals c hears in
       cc
 
-  told_as : (of : Option JudgedCall) (opening : Option AuthCall) (after : Work) → call_heard its_heard ≡ of → ToldBy of opening its_link s.seals d.work.work after → Added after.actions
+  told_as : (of : Option JudgedCall) (opening : Option AuthCall) (after : Work) → call_heard its_heard ≡ of → ToldBy of opening its_link s.seals d.table d.work.work after → Added after.actions
   told_as None opening after is told = record {
     new = told.0.new;
     is = told.0.is;
@@ -379,7 +389,7 @@ module _ (name : List ℕ) (now number : ℕ) (bytes : List ℕ) (d : TrustDesk)
     };
   }
 
-  abbrev UnitAdds : SealPart → Type 0
+  abbrev pub UnitAdds : SealPart → Type 0
   UnitAdds (Err why) = left ≡ []
   UnitAdds (Ok done) = Added done.value.0.desk.work.work.actions × Seals done.value.0.sealing
 
@@ -387,7 +397,7 @@ module _ (name : List ℕ) (now number : ℕ) (bytes : List ℕ) (d : TrustDesk)
   adds_by (Err why) told = told
   adds_by (Ok done) told = (told_as (call_heard its_heard) (opening_heard its_heard) done.value.0.desk.work.work refl told.0, told.1)
 
-  unit_adds : UnitAdds its_part
+  pub unit_adds : UnitAdds its_part
   unit_adds = adds_by its_part unit_told
 
   served_if : (part : SealPart) → UnitAdds part → IfServed part left (λ after. Added after.desk.work.work.actions)
@@ -406,7 +416,7 @@ module _ (name : List ℕ) (now number : ℕ) (bytes : List ℕ) (d : TrustDesk)
   Passing computer = PassesFor number bytes talk Before s computer
 
   abbrev Opening : List ℕ → Type 0
-  Opening computer = OpensFor number bytes talk s computer
+  Opening computer = OpensFor number bytes talk d s computer
 
   left_stays : (c : JudgedCall) (after : Work) (computer : List ℕ) → call_heard its_heard ≡ Some c → LeftOn its_link c Before s.seals after.computers.channels → (Passing computer → ⊥) →
       channel_at after.computers computer ≡ channel_at Before computer
@@ -421,13 +431,10 @@ module _ (name : List ℕ) (now number : ℕ) (bytes : List ℕ) (d : TrustDesk)
       ]
 
   stays_after : (of : Option JudgedCall) (opening : Option AuthCall) (after : Work) (computer : List ℕ) → call_heard its_heard ≡ of → opening_heard its_heard ≡ opening →
-      ToldBy of opening its_link s.seals d.work.work after → (Passing computer → ⊥) → (Opening computer → ⊥) → channel_at after.computers computer ≡ channel_at Before computer
+      ToldBy of opening its_link s.seals d.table d.work.work after → (Passing computer → ⊥) → (Opening computer → ⊥) → channel_at after.computers computer ≡ channel_at Before computer
   stays_after None None after computer is opens told none other = ap (λ (channels : List (List ℕ × SecureChannelState)). lookup same_name computer channels) told.1
   stays_after None (Some c) after computer is opens told none other =
-      elim (cases_Bool (same_name c.computer computer)) [
-        | inl same ↦ absurd (other (record { call = c; heard = opens; its = same }))
-        | inr differ ↦ told.1 computer differ
-      ]
+      told.1 computer (λ replaces. other (record { call = c; heard = opens; channel = replaces.channel; opens = replaces.opens; its = replaces.its }))
   stays_after (Some c) opening after computer is opens told none other = left_stays c after computer is told.left none
 
   stays_by : (part : SealPart) (computer : List ℕ) → PartTold (call_heard its_heard) (opening_heard its_heard) its_link d s.seals left part → (Passing computer → ⊥) → (Opening computer → ⊥) →
@@ -459,7 +466,7 @@ module _ (name : List ℕ) (now number : ℕ) (bytes : List ℕ) (d : TrustDesk)
       ∙ ap (λ (g : Authenticator). Some (channel_by true on.next.channel g)) given
 
   moves_as : (of : Option JudgedCall) (opening : Option AuthCall) (after : Work) (c : JudgedCall) (on : IsNextOn its_link c Before s.seals) → call_heard its_heard ≡ of →
-      HearsCall its_link number bytes talk s.seals c → ToldBy of opening its_link s.seals d.work.work after → MovedFor c on after
+      HearsCall its_link number bytes talk s.seals c → ToldBy of opening its_link s.seals d.table d.work.work after → MovedFor c on after
   moves_as None opening after c on is hears told = absurd (let never : None ≡ Some c = sym is ∙ hears_so its_link number bytes talk s.seals c hears in cc)
   moves_as (Some one) opening after c on is hears told =
       left_moves c on after (subst (λ (other : JudgedCall). LeftOn its_link other Before s.seals after.computers.channels) (one_call one c is hears) told.left)

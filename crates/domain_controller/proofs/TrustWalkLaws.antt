@@ -365,7 +365,7 @@ both_act a b c first second = record {
   adds = adds_both IsOfTurn a.work.actions b.work.actions c.work.actions first.adds second.adds;
 }
 
-ended_acts : (ended : Option TurnEnded) (trust : ℕ) (w : TrustWork) → Acts w (after_ended ended trust w)
+pub ended_acts : (ended : Option TurnEnded) (trust : ℕ) (w : TrustWork) → Acts w (after_ended ended trust w)
 ended_acts None trust w = record { computers = refl; adds = adds_none IsOfTurn w.work.actions }
 ended_acts (Some ended) trust w =
     both_act w (close_ended ended.closes w) (end_turn ended.how trust (close_ended ended.closes w)) (closed_acts ended.closes w) (end_acts ended.how trust (close_ended ended.closes w))
@@ -406,7 +406,7 @@ failed_acts true parts = turn_acts _ (λ turning. no_dial turning) parts (λ tur
 
 -- ---- the next turn
 
-abbrev NextActs : Parts → Result (Part Parts) StepRefused → Type 0
+abbrev pub NextActs : Parts → Result (Part Parts) StepRefused → Type 0
 NextActs before (Err why) = Unit {0}
 NextActs before (Ok part) = Acts before.work part.value.work
 
@@ -426,7 +426,7 @@ at_acts : (first : Option ℕ) (trusts : List Trust) (now : ℕ) (parts : Parts)
 at_acts None trusts now parts left = record { computers = refl; adds = adds_none IsOfTurn parts.work.work.actions }
 at_acts (Some trust) trusts now parts left = start_acts _ _ trust now parts left
 
-next_acts : (idle : Bool) (trusts : List Trust) (now : ℕ) (parts : Parts) (left : List (List ℕ)) → NextActs parts (next_if idle trusts now parts left)
+pub next_acts : (idle : Bool) (trusts : List Trust) (now : ℕ) (parts : Parts) (left : List (List ℕ)) → NextActs parts (next_if idle trusts now parts left)
 next_acts false trusts now parts left = record { computers = refl; adds = adds_none IsOfTurn parts.work.work.actions }
 next_acts true trusts now parts left = at_acts (first_waiting parts.work.queues.requesters) trusts now parts left
 

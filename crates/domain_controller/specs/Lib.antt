@@ -9,6 +9,8 @@ pub mod ReadBack
 pub mod SealHearing
 pub mod SealJudging
 pub mod SealLaws
+pub mod SealNumbers
+pub mod SealReplays
 pub mod SealReplies
 pub mod SealServing
 pub mod SealStep

@@ -1,7 +1,7 @@
 -- How calls on secure channels are judged at a controller that can seal, whatever bytes come from anybody, and on
 -- whatever links (MS-NRPC 3.1.4.5 and 3.3; that a call finds its channel on links of that channel alone, is this
 -- project's own choice).
-use Rattle.std.specs.Prelude.{ℕ, ◌≡◌, ◌↔◌, ◌==◌, Bool, true, false, List, [], ◌∷◌, ◌++◌, Option, Some, None, Result, Ok, Err}
+use Rattle.std.specs.Prelude.{ℕ, ◌≡◌, ◌↔◌, ◌==◌, true, false, List, [], ◌∷◌, ◌++◌, Option, Some, None, Ok, Err}
 use Rattle.wire_base.specs.Maps.{lookup, same_number}
 use Rattle.wire_base.specs.Names.{same_name}
 use Rattle.wire_base.specs.declared.authenticator.Authenticator.{Authenticator}
@@ -23,6 +23,7 @@ use Rattle.channel_turns.specs.Turning.{is_on}
 use Rattle.end_links.specs.Links.{LinkState}
 use Rattle.end_links.specs.Serving.{ServedUnit, served_units}
 use Rattle.controller_calls.specs.Calls.{computer_named, given_in}
+use Rattle.controller_calls.specs.Granting.{channel_opened, secure_flags}
 use Rattle.controller_calls.specs.Passing.{IsNext, is_passed}
 use Rattle.controller_calls.specs.Seals.{stands}
 use Rattle.controller_calls.specs.declared.calls.ControllerCall.{ControllerCall}
@@ -206,20 +207,22 @@ pub record PassesFor (number : ℕ) (bytes : List ℕ) (talk : Talk) (computers 
   pub on : IsNextOn (seal_of_link number s) call computers s.seals
   pub its : same_name on.next.computer computer ≡ true
 
--- the unit asks to open a channel for that computer
-pub record OpensFor (number : ℕ) (bytes : List ℕ) (talk : Talk) (s : Sealing) (computer : List ℕ) : Type 0 where
+-- the unit opens another channel for that computer: it asks to, and isn't refused
+pub record OpensFor (number : ℕ) (bytes : List ℕ) (talk : Talk) (d : TrustDesk) (s : Sealing) (computer : List ℕ) : Type 0 where
   pub call : AuthCall
   pub heard : opening_heard (seal_hear number bytes talk (seal_of_link number s) s.seals).heard ≡ Some call
+  pub channel : SecureChannelState
+  pub opens : channel_opened secure_flags d.table call d.work.work.computers ≡ Ok channel
   pub its : same_name call.computer computer ≡ true
 
 -- A call that passes moves its computer's channel on to the next seed. No other unit changes a channel, but one that
--- asks to open another for its computer.
+-- opens another for its computer.
 pub record SeedsMoveByPassing : Type 0 where
   pub moves : (name : List ℕ) (now number : ℕ) (bytes : List ℕ) (d : TrustDesk) (s : Sealing) (talk : Talk) (left : List (List ℕ)) (c : JudgedCall) →
       HearsCall (seal_of_link number s) number bytes talk s.seals c → (on : IsNextOn (seal_of_link number s) c d.work.work.computers s.seals) →
       IfServed ((seal_server name now number).unit bytes (seal_desk d s) talk left) left
       (λ after. channel_at after.desk.work.work.computers on.next.computer ≡ Some (channel_by true on.next.channel on.next.given))
   pub stays : (name : List ℕ) (now number : ℕ) (bytes : List ℕ) (d : TrustDesk) (s : Sealing) (talk : Talk) (left : List (List ℕ)) (computer : List ℕ) →
-      (PassesFor number bytes talk d.work.work.computers s computer → ⊥) → (OpensFor number bytes talk s computer → ⊥) →
+      (PassesFor number bytes talk d.work.work.computers s computer → ⊥) → (OpensFor number bytes talk d s computer → ⊥) →
       IfServed ((seal_server name now number).unit bytes (seal_desk d s) talk left) left
       (λ after. channel_at after.desk.work.work.computers computer ≡ channel_at d.work.work.computers computer)

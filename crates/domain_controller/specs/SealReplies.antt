@@ -1,12 +1,11 @@
 -- What goes out for a logon from a sealed link that was asked of another controller, and under which number a reply is
 -- sealed (MS-NRPC 3.3.4.2.1; that a reply goes out on a channel that stands alone is this project's own choice).
-use Rattle.std.specs.Prelude.{ℕ, ◌≡◌, true, false, List, [], ◌∷◌, ◌++◌, Option, Some, None, slice_get}
+use Rattle.std.specs.Prelude.{ℕ, ◌≡◌, true, false, List, [], ◌∷◌, ◌++◌, Some, None, slice_get}
 use Rattle.wire_base.specs.Maps.{lookup}
 use Rattle.outside.specs.declared.action.Action.TheVariants as action
 use Rattle.outside.specs.declared.action.Judged.TheVariants as judged
 use Rattle.logon_stubs.specs.Writing.{written_reply}
 use Rattle.logon_stubs.specs.declared.info.Verdict.{Verdict}
-use Rattle.netlogon_seal.specs.Channels.{NlState}
 use Rattle.channel_client.specs.State.{Requester}
 use Rattle.channel_turns.specs.Turning.{Turned}
 use Rattle.channel_turns.specs.declared.state.Turning.{Turning}

@@ -5,6 +5,8 @@ ghost use Rattle.domain_controller.specs.Laws.{ClosesNothing, AnswersUnits, Keep
 ghost use Rattle.domain_controller.specs.ReadBack.{RepliesAreReadBack};
 ghost use Rattle.domain_controller.specs.SealJudging.{JudgesByLink, SeedsMoveByPassing};
 ghost use Rattle.domain_controller.specs.SealLaws.{BadAuthenticationByRules, NoChannelByLink, PlainControllersStay};
+ghost use Rattle.domain_controller.specs.SealNumbers.{SpentClosesLinks};
+ghost use Rattle.domain_controller.specs.SealReplays.{SealedReplaysBySum};
 ghost use Rattle.domain_controller.specs.SealReplies.{RepliesWhereItStands, SealsBySent};
 ghost use Rattle.domain_controller.specs.Sessions.{HashesStayUnset, SessionsFollowCalls};
 ghost use Rattle.domain_controller.specs.TrustLaws.{AnswersOnce, AnswersOpenLinks, ClosesNone, ForwardsByTrust, LinksAreApart, OneTurnIsOut, StepsAlone};
@@ -244,11 +246,20 @@ pub fn calls_pass_on_their_own_links()
 {}
 
 /// A call that passes at a controller that can seal moves the channel of its computer to the next seed. No other unit
-/// on an accepted link changes a channel that is kept, but one that asks to open another for its computer. Of events
-/// that bring no such unit nothing is said here.
+/// on an accepted link changes a channel that is kept, but one that opens another for its computer; one that asks to
+/// and is refused changes none. Of events that bring no such unit nothing is said here.
 #[tactic(auto, using(crate::proofs::SealToldLaws::seeds_move))]
 pub fn seeds_move_where_calls_pass()
     ensures { SeedsMoveByPassing }
+{}
+
+/// Whatever happens to a controller that can seal, and whatever bytes come: where an authenticator passed on the
+/// channel of a computer, and comes again in a call on a link of that channel, it passes again exactly where the
+/// timestamps that passed there since, its own first, each plus one, sum to a multiple of 2^32. Between both calls no
+/// unit opened another channel for the computer. On a sealed link the channel's end opened the unit.
+#[tactic(auto, using(crate::proofs::SealReplayLaws::replays_by_sum))]
+pub fn replays_pass_by_the_sum()
+    ensures { SealedReplaysBySum }
 {}
 
 /// A logon from a sealed link that was asked of another controller waits without a line. The answer of one that waits
@@ -263,4 +274,12 @@ pub fn sealed_logons_are_answered_where_they_stand()
 #[tactic(auto, using(crate::proofs::SealReplyLaws::seals_by_sent))]
 pub fn replies_are_sealed_by_the_number_sent()
     ensures { SealsBySent }
+{}
+
+/// Where a channel's end has used up its numbers, its links are closed for BadAuthentication, and nothing is sent: at a
+/// request where as many were opened as there are numbers; at a reply that has more frames than numbers are left, also
+/// one to a logon that another controller answered. Where numbers are left for its frames a reply goes out.
+#[tactic(auto, using(crate::proofs::SealNumberLaws::spent_closes_links))]
+pub fn used_up_numbers_close_links()
+    ensures { SpentClosesLinks }
 {}
