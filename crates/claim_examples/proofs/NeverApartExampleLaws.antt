@@ -1,6 +1,6 @@
 -- A member that replaces its secret, at states that were written down by hand: which meet the claim that it and its
 -- controller are never apart, and which don't. It serves `members_tell_apart`.
-use Rattle.std.proofs.Common.{◌≡◌, ◌<◌, ℕ, zero, suc, false, List, [], ◌∷◌, ◌++◌, replicate, get_or, Option, Some, None, inl, inr, refl, sym, ap, subst, ◌∙◌, arith, slice_get}
+use Rattle.std.proofs.Common.{◌≡◌, ◌<◌, ℕ, zero, suc, Bool, false, List, [], ◌∷◌, ◌++◌, replicate, get_or, Option, Some, None, inl, inr, refl, sym, ap, subst, ◌∙◌, arith, slice_get}
 use Rattle.std.specs.Prelude.{◌≢◌, codes}
 use Rattle.std.specs.Option.{option_map}
 use Rattle.std.proofs.lemmas.List.Elements.{All-from_recursion, All-nil, All-replicate}
@@ -10,7 +10,8 @@ use Rattle.wire_base.proofs.NumberLaws.{bytes_from_all}
 use Rattle.account_table.specs.AccountTable.{AccountTable}
 use Rattle.account_table.specs.LookUps.{account_in, machine_name, place_in}
 use Rattle.account_table.specs.declared.account.Account.{Account}
-use Rattle.secret_change.specs.Secrets.{IsSecret, SecretsState, alone, next_of, secrets_of, written_secrets}
+use Rattle.account_table.specs.declared.account.Trust.{Trust}
+use Rattle.secret_change.specs.Secrets.{AreSecrets, IsSecret, SecretsState, alone, next_of, reread, secrets_of, written_secrets}
 use Rattle.secret_change.specs.declared.secrets.Next.{Next}
 use Rattle.secret_change.proofs.FormLaws.{written_is_read}
 use Rattle.channel_client.specs.Machine.{fresh_requester}
@@ -33,11 +34,11 @@ use Rattle.world_moves.specs.Moving.{end_of_peer}
 use Rattle.world_moves.specs.World.{IsMove, World, first_ends, kept_by, kept_of}
 use Rattle.world_moves.proofs.AloneLaws.{plain_plan}
 use Rattle.domain_world.specs.Claims.{IsClear}
-use Rattle.domain_world.specs.Claims.NeverApart.{BeginsAlike, IsAmong, IsNeverApart, MembersAreNeverApart, computer_of, has_foreign_set}
+use Rattle.domain_world.specs.Claims.NeverApart.{BeginsAlike, IsAmong, IsNeverApart, KeepsWhatItHolds, MembersAreNeverApart, MembersKeepWhatTheyHold, computer_of, has_foreign_set}
 use Rattle.domain_world.specs.Past.{Past, past}
 use Rattle.wire_base.proofs.ListLaws.{got_nothing, no_some, some_is}
 use Rattle.claim_examples.specs.CompletenessExamples.{able_member, able_table, machine_account}
-use Rattle.claim_examples.specs.NeverApartExamples.{OfBeginnings, OfNeverApart, OfProvedRun, backup_account, both_secrets, change_moves, change_plan, controller_having, disabled_account, holds_and_kept, letters_plan, member_holding, member_with, new_secret, old_secret, other_secret, plan_by, plan_of, running_with, second_secret, set_passed, state_of, stopped_member, table_with, tried_secrets, two_plan, two_with, without_account}
+use Rattle.claim_examples.specs.NeverApartExamples.{HasThird, OfBeginnings, OfKeeping, OfNeverApart, OfProvedRun, OfTrying, any_account, any_plan, backup_account, beside_another, both_secrets, change_moves, change_plan, controller_having, crossed_plan, disabled_account, holds_and_kept, letters_plan, member_holding, member_with, new_secret, old_secret, other_secret, plan_by, plan_of, run_to, running_with, second_secret, set_passed, short_secret, state_of, stopped_member, table_with, tried_secrets, two_plan, two_with, without_account}
 use Rattle.claim_examples.specs.ClaimExamples.{keeping_controller, small_account}
 use Rattle.claim_examples.proofs.CompletenessLaws.{a_name, account_form, table_form}
 
@@ -54,6 +55,15 @@ found_backup = refl
 found_disabled : account_in (able_table (disabled_account ∷ [])).accounts (machine_name (codes "FILE1")) ≡ Some disabled_account
 unfolding place_in same_name names.upper_of
 found_disabled = refl
+
+found_any : (account : Account) → account_in (any_account account ∷ []) (machine_name (codes "FILE1")) ≡ Some (any_account account)
+unfolding place_in same_name names.upper_of
+found_any account = refl
+
+found_beside : account_in (record machine_account { name = codes "FILE2$"; hash = old_secret } ∷ record machine_account { hash = other_secret } ∷ []) (machine_name (codes "FILE1"))
+    ≡ Some (record machine_account { hash = other_secret })
+unfolding place_in same_name names.upper_of
+found_beside = refl
 
 found_letters : account_in (table_with old_secret).accounts (machine_name (codes "file1")) ≡ Some (record machine_account { hash = old_secret })
 unfolding place_in same_name names.upper_of
@@ -144,6 +154,28 @@ begins_by account hash found = record {
   only = none_else;
 }
 
+none_in_any : (account : Account) (trusts : List Trust) (sealed : Bool) (who : RequesterId) (name : List ℕ) → who ≢ OfMember 0 → computer_of (any_plan account trusts sealed) who ≡ Some name →
+    SameName name (codes "FILE1") → ⊥
+none_in_any account trusts sealed (OfMember zero) name other is same = other refl
+none_in_any account trusts sealed (OfMember (suc k)) name other is same = no_some name is
+
+-- whatever else stands in the account, the table and the member
+any_begins : (account : Account) (trusts : List Trust) (sealed : Bool) → BeginsAlike (any_plan account trusts sealed) 0
+any_begins account trusts sealed = record {
+  own = record (able_member old_secret) { sealed = sealed };
+  is_plan = refl;
+  secret = old_secret;
+  one = refl;
+  controller = 0;
+  reaches = refl;
+  table = record (able_table (any_account account ∷ [])) { trusts = trusts };
+  is_table = refl;
+  account = any_account account;
+  found = found_any account;
+  hash = refl;
+  only = none_in_any account trusts sealed;
+}
+
 none_with_letters : (who : RequesterId) (name : List ℕ) → who ≢ OfMember 0 → computer_of letters_plan who ≡ Some name → SameName name (codes "file1") → ⊥
 none_with_letters (OfMember zero) name other is same = other refl
 none_with_letters (OfMember (suc k)) name other is same = no_some name is
@@ -183,6 +215,27 @@ second_begins = record {
   found = found_with old_secret;
   hash = refl;
   only = none_second;
+}
+
+none_crossed : (who : RequesterId) (name : List ℕ) → who ≢ OfMember 1 → computer_of crossed_plan who ≡ Some name → SameName name (codes "FILE1") → ⊥
+none_crossed (OfMember zero) name other is same = names_apart (subst (λ (one : List ℕ). SameName one (codes "FILE1")) (sym (some_is (codes "FILE2") name is)) same)
+none_crossed (OfMember (suc zero)) name other is same = other refl
+none_crossed (OfMember (suc (suc k))) name other is same = no_some name is
+
+crossed_begins : BeginsAlike crossed_plan 1
+crossed_begins = record {
+  own = able_member old_secret;
+  is_plan = refl;
+  secret = old_secret;
+  one = refl;
+  controller = 0;
+  reaches = refl;
+  table = table_with old_secret;
+  is_table = refl;
+  account = record machine_account { hash = old_secret };
+  found = found_with old_secret;
+  hash = refl;
+  only = none_crossed;
 }
 
 -- ---- what it says of a state
@@ -227,13 +280,20 @@ holding held hash among running runs =
 runs_not : (hash : List ℕ) (running : MemberRunning) → stopped_member.running ≡ Some running → IsAmong hash running.logons.plan.secrets
 runs_not hash running runs = absurd (no_some running runs)
 
--- the hash of the account that the claim finds
+-- the hash of the account that the claim finds, in any world
+hash_in_world : (w : World) (b : Book) (c : ControllerState) (hash : List ℕ) → slice_get w.state.ends.controllers 0 ≡ Some c → c.table ≡ table_with hash →
+    (its : IsNeverApart (run_to w b) 0 begins_alike) → its.account.hash ≡ hash
+hash_in_world w b c hash there table its =
+    let state : c ≡ its.state = some_is c its.state (sym there ∙ its.at) in
+    let its_table : table_with hash ≡ its.state.table = sym table ∙ ap (λ (one : ControllerState). one.table) state in
+    let found : Some (record machine_account { hash = hash }) ≡ Some its.account =
+    sym (found_with hash) ∙ ap (λ (t : AccountTable). account_in t.accounts (machine_name (codes "FILE1"))) its_table ∙ its.found in
+    ap (λ (account : Account). account.hash) (sym (some_is (record machine_account { hash = hash }) its.account found))
+
 hash_is : (member : MemberState) (kept : SecretsState) (hash : List ℕ) (calls : List Judging) (its : IsNeverApart (state_of member kept hash calls) 0 begins_alike) → its.account.hash ≡ hash
 hash_is member kept hash calls its =
-    let state : controller_having hash ≡ its.state = some_is (controller_having hash) its.state its.at in
-    let found : Some (record machine_account { hash = hash }) ≡ Some its.account =
-    sym (found_with hash) ∙ ap (λ (c : ControllerState). account_in c.table.accounts (machine_name (codes "FILE1"))) state ∙ its.found in
-    ap (λ (account : Account). account.hash) (sym (some_is (record machine_account { hash = hash }) its.account found))
+    let run : Past = state_of member kept hash calls in
+    hash_in_world run.world run.book (controller_having hash) hash refl refl its
 
 held_so : (held kept : SecretsState) (hash : List ℕ) (calls : List Judging) → has_foreign_set calls ≡ false → MembersAreNeverApart (holds_and_kept held kept hash calls) → IsAmong hash held
 held_so held kept hash calls own claim =
@@ -250,6 +310,23 @@ pub not_among : (hash current : List ℕ) (next : Option Next) → (hash ≡ cur
     IsAmong hash (record { current = current; next = next }) → ⊥
 not_among hash current next apart else among = elim among.among [ inl is ↦ apart is | inr is ↦ else is ]
 
+-- a third one is neither of both
+not_third : IsAmong other_secret both_secrets → ⊥
+not_third = not_among other_secret old_secret both_secrets.next other_is_old (λ is. other_is_new (sym (some_is new_secret other_secret is)))
+
+held_third : (w : World) (b : Book) (m : MemberState) (running : MemberRunning) → HasThird w b → slice_get w.state.ends.members 0 ≡ Some m → m.running ≡ Some running →
+    running.logons.plan.secrets ≡ both_secrets → MembersAreNeverApart (run_to w b) → ⊥
+held_third w b m running third there runs both claim =
+    let its : IsNeverApart (run_to w b) 0 begins_alike = claim third.own 0 begins_alike in
+    let hash : its.account.hash ≡ other_secret = hash_in_world w b third.controller other_secret third.at third.table its in
+    not_third (subst (λ (s : SecretsState). IsAmong other_secret s) both (subst (λ (h : List ℕ). IsAmong h running.logons.plan.secrets) hash (its.held m running there runs)))
+
+kept_third : (w : World) (b : Book) → HasThird w b → kept_of w 0 ≡ Some both_secrets → MembersAreNeverApart (run_to w b) → ⊥
+kept_third w b third both claim =
+    let its : IsNeverApart (run_to w b) 0 begins_alike = claim third.own 0 begins_alike in
+    let hash : its.account.hash ≡ other_secret = hash_in_world w b third.controller other_secret third.at third.table its in
+    not_third (subst (λ (h : List ℕ). IsAmong h both_secrets) hash (its.kept both_secrets both))
+
 none_next : (hash current : List ℕ) → next_of (alone current) ≡ Some hash → ⊥
 none_next hash current is = no_some hash is
 
@@ -258,8 +335,11 @@ none_next hash current is = no_some hash is
 is_secret : (byte : ℕ) → byte < 256 → IsSecret (replicate 16 byte)
 is_secret byte small = (refl, bytes_from_all (replicate 16 byte) (All-replicate (λ (one : ℕ). one < 256) 16 byte small))
 
+are_both : AreSecrets both_secrets
+are_both = (is_secret 0x41 (omega arith), is_secret 0x61 (omega arith))
+
 text_read : secrets_of (written_secrets both_secrets) ≡ Some both_secrets
-text_read = written_is_read both_secrets (is_secret 0x41 (omega arith), is_secret 0x61 (omega arith))
+text_read = written_is_read both_secrets are_both
 
 abbrev begun_running : MemberRunning
 begun_running = record {
@@ -319,8 +399,7 @@ two_not_apart claim =
     let found : Some (record machine_account { hash = other_secret }) ≡ Some its.account =
     sym (found_with other_secret) ∙ ap (λ (c : ControllerState). account_in c.table.accounts (machine_name (codes "FILE1"))) state ∙ its.found in
     let hash : its.account.hash ≡ other_secret = ap (λ (account : Account). account.hash) (sym (some_is (record machine_account { hash = other_secret }) its.account found)) in
-    not_among other_secret old_secret both_secrets.next other_is_old (λ is. other_is_new (sym (some_is new_secret other_secret is)))
-    (subst (λ (h : List ℕ). IsAmong h both_secrets) hash (its.kept both_secrets refl))
+    not_third (subst (λ (h : List ℕ). IsAmong h both_secrets) hash (its.kept both_secrets refl))
 
 -- ---- no account
 
@@ -331,12 +410,27 @@ gone_apart claim =
     let state : bare ≡ its.state = some_is bare its.state its.at in
     no_some its.account (sym found_none ∙ ap (λ (c : ControllerState). account_in c.table.accounts (machine_name (codes "FILE1"))) state ∙ its.found)
 
+-- ---- another account has one of its secrets
+
+another_apart : MembersAreNeverApart beside_another → ⊥
+another_apart claim =
+    let its : IsNeverApart beside_another 0 begins_alike = claim refl 0 begins_alike in
+    let accounts : List Account = record machine_account { name = codes "FILE2$"; hash = old_secret } ∷ record machine_account { hash = other_secret } ∷ [] in
+    let bare : ControllerState = record (keeping_controller []) { table = able_table accounts } in
+    let state : bare ≡ its.state = some_is bare its.state its.at in
+    let found : Some (record machine_account { hash = other_secret }) ≡ Some its.account =
+    sym found_beside ∙ ap (λ (c : ControllerState). account_in c.table.accounts (machine_name (codes "FILE1"))) state ∙ its.found in
+    let hash : its.account.hash ≡ other_secret = ap (λ (account : Account). account.hash) (sym (some_is (record machine_account { hash = other_secret }) its.account found)) in
+    not_third (subst (λ (h : List ℕ). IsAmong h both_secrets) hash (its.kept both_secrets refl))
+
 pub of_beginnings : OfBeginnings
 of_beginnings = record {
   meets = begins_alike;
   meets_second = second_begins;
+  meets_crossed = crossed_begins;
   meets_backup = begins_by backup_account refl found_backup;
   meets_disabled = begins_by disabled_account refl found_disabled;
+  meets_any = any_begins;
   meets_letters = letters_begin;
   fails_hash = λ begins.
       let own : able_member old_secret ≡ begins.own = some_is (able_member old_secret) begins.own begins.is_plan in
@@ -391,13 +485,9 @@ of_never_apart = record {
   changed = begun_apart;
   two = two_apart;
   stranger = λ own member begins. absurd (let never = own in cc);
-  fails_other = λ claim.
-      not_among other_secret old_secret both_secrets.next other_is_old (λ is. other_is_new (sym (some_is new_secret other_secret is)))
-      (held_so both_secrets both_secrets other_secret (set_passed ∷ []) refl claim);
+  fails_other = λ claim. not_third (held_so both_secrets both_secrets other_secret (set_passed ∷ []) refl claim);
   fails_held = λ claim. not_among old_secret new_secret None old_is_new (none_next old_secret new_secret) (held_so (alone new_secret) both_secrets old_secret [] refl claim);
-  fails_holding = λ claim.
-      not_among other_secret old_secret both_secrets.next other_is_old (λ is. other_is_new (sym (some_is new_secret other_secret is)))
-      (held_so both_secrets (alone other_secret) other_secret (set_passed ∷ []) refl claim);
+  fails_holding = λ claim. not_third (held_so both_secrets (alone other_secret) other_secret (set_passed ∷ []) refl claim);
   fails_trying = λ claim.
       not_among other_secret old_secret tried_secrets.next other_is_old (λ is. other_is_new (sym (some_is new_secret other_secret is)))
       (held_so tried_secrets (alone other_secret) other_secret (set_passed ∷ []) refl claim);
@@ -409,11 +499,58 @@ of_never_apart = record {
       not_among old_secret new_secret None old_is_new (none_next old_secret new_secret) (held_so (alone new_secret) (alone new_secret) old_secret (set_passed ∷ []) refl claim);
   fails_second = two_not_apart;
   fails_gone = gone_apart;
+  fails_another = another_apart;
   fails_stopped = λ claim.
       not_among new_secret old_secret None (λ is. old_is_new (sym is)) (none_next new_secret old_secret) (kept_so stopped_member (alone old_secret) new_secret (set_passed ∷ []) refl claim);
-  fails_keeping = λ claim.
-      not_among other_secret old_secret both_secrets.next other_is_old (λ is. other_is_new (sym (some_is new_secret other_secret is)))
-      (kept_so stopped_member both_secrets other_secret (set_passed ∷ []) refl claim);
+  fails_keeping = λ claim. not_third (kept_so stopped_member both_secrets other_secret (set_passed ∷ []) refl claim);
+  fails_held_anywhere = held_third;
+  fails_kept_anywhere = kept_third;
+}
+
+-- ---- what is kept and what is tried
+
+-- of a state that was written down, where both have their form
+keeps_by : (member : MemberState) (kept : SecretsState) (hash : List ℕ) → AreSecrets kept →
+    ((running : MemberRunning) → member.running ≡ Some running → AreSecrets running.logons.plan.secrets × (reread kept ≡ reread running.logons.plan.secrets)) →
+    MembersKeepWhatTheyHold (state_of member kept hash [])
+keeps_by member kept hash are held zero own is form = record {
+  kept = λ secrets its. subst AreSecrets (some_is kept secrets its) are;
+  held = λ secrets m running its there runs.
+      let both = held running (ap MemberState.running (some_is member m there) ∙ runs) in
+      (both.0, ap reread (sym (some_is kept secrets its)) ∙ both.1);
+}
+keeps_by member kept hash are held (suc k) own is form = absurd (got_nothing k own is)
+
+-- of one that holds these
+keeps_these : (secrets kept : SecretsState) → AreSecrets kept → AreSecrets secrets → reread kept ≡ reread secrets → MembersKeepWhatTheyHold (holds_and_kept secrets kept old_secret [])
+keeps_these secrets kept are form same =
+    keeps_by (member_holding secrets) kept old_secret are (λ running runs.
+    subst (λ (r : MemberRunning). AreSecrets r.logons.plan.secrets × (reread kept ≡ reread r.logons.plan.secrets)) (some_is (running_with secrets) running runs) (form, same))
+
+its_keeping : (member : MemberState) (kept : SecretsState) (hash : List ℕ) → MembersKeepWhatTheyHold (state_of member kept hash []) → KeepsWhatItHolds (state_of member kept hash []) 0
+its_keeping member kept hash claim = claim 0 (able_member old_secret) refl (is_secret 0x41 (omega arith), tt)
+
+pub of_keeping : OfKeeping
+of_keeping = record {
+  meets = keeps_these both_secrets both_secrets are_both are_both refl;
+  meets_tried = keeps_these tried_secrets both_secrets are_both are_both refl;
+  meets_stopped = keeps_by stopped_member (alone new_secret) new_secret (is_secret 0x61 (omega arith), tt) (λ running runs. absurd (no_some running runs));
+  fails_begun = λ claim.
+      let same = ((its_keeping (member_holding both_secrets) (alone old_secret) old_secret claim).held (alone old_secret) (member_holding both_secrets) (running_with both_secrets) refl refl refl).1 in
+      absurd (let never : None ≡ both_secrets.next = ap (λ (s : SecretsState). s.next) same in cc);
+  fails_learned = λ claim.
+      let same = ((its_keeping (member_holding (alone new_secret)) both_secrets new_secret claim).held both_secrets (member_holding (alone new_secret)) (running_with (alone new_secret)) refl refl refl).1 in
+      absurd (let never : both_secrets.next ≡ None = ap (λ (s : SecretsState). s.next) same in cc);
+  fails_short = λ claim.
+      let short : 15 ≡ 16 = ((its_keeping stopped_member (alone short_secret) new_secret claim).kept (alone short_secret) refl).0.0 in omega (arith, short);
+}
+
+pub of_trying : OfTrying
+of_trying = record {
+  meets = (record { coherent = record { matches = tt; first = tt; places = tt; few = omega arith }; opens = refl; sets = tt }, tt);
+  meets_next = (record { coherent = record { matches = tt; first = tt; places = tt; few = omega arith }; opens = refl; sets = tt }, tt);
+  fails_untried = λ claim. old_is_new (sym claim.0.opens);
+  fails_current = λ claim. old_is_new claim.0.opens;
 }
 
 -- ---- a run, of which the claim is proved

@@ -8,7 +8,7 @@ ghost use Rattle.claim_examples.specs.ClearSuccess.{AnnCanSucceed};
 ghost use Rattle.claim_examples.specs.GrantExamples.{GrantsTellApart};
 ghost use Rattle.claim_examples.specs.LetInExamples.{OfLettingIn, OfNames};
 ghost use Rattle.claim_examples.specs.NearMisses.{NearMissesTellApart};
-ghost use Rattle.claim_examples.specs.NeverApartExamples.{OfBeginnings, OfNeverApart, OfProvedRun};
+ghost use Rattle.claim_examples.specs.NeverApartExamples.{OfBeginnings, OfKeeping, OfNeverApart, OfProvedRun, OfTrying};
 ghost use Rattle.claim_examples.specs.OpeningExamples.{OfOpenedReplies, OfOpenings};
 ghost use Rattle.claim_examples.specs.OwnChallengeExamples.{OfOwnChallenges};
 ghost use Rattle.claim_examples.specs.ReplyExamples.{OfReplies};
@@ -82,17 +82,20 @@ pub fn near_misses_tell_apart()
 
 /// That a member and its controller are never apart is said of small states of a change of its secret, and not of
 /// others: each has another hash, or another secret that is held or kept. What the claim asks of the start, and of what
-/// a stranger did, is met and missed so, too. What is proved of all runs says it of one in which the change begins.
-#[tactic(auto, using(crate::proofs::NeverApartExampleLaws::of_beginnings, crate::proofs::NeverApartExampleLaws::of_never_apart, crate::proofs::NeverApartExampleLaws::of_proved_run))]
+/// a stranger did, is met and missed so, too. So is that a member keeps what it holds, and that it opens its channel
+/// under the secret that it tries. What is proved of all runs says it of one in which the change begins.
+#[tactic(auto, using(crate::proofs::NeverApartExampleLaws::of_beginnings, crate::proofs::NeverApartExampleLaws::of_never_apart, crate::proofs::NeverApartExampleLaws::of_keeping, crate::proofs::NeverApartExampleLaws::of_trying, crate::proofs::NeverApartExampleLaws::of_proved_run))]
 pub fn members_tell_apart()
     ensures premise { OfBeginnings }
     ensures claim { OfNeverApart }
+    ensures keeping { OfKeeping }
+    ensures trying { OfTrying }
     ensures run { OfProvedRun }
 {}
 
 /// The claim on sequences is met by a run whose seeds are written by the standard's ciphers, and not by others, each of
 /// which differs from one that meets it in one thing. Its part on members alone, which holds of every run, is met and
-/// missed so, too.
+/// missed by runs that differ in one thing too.
 #[tactic(auto, using(crate::proofs::SequenceMissLaws::sequences_apart))]
 pub fn sequences_tell_apart()
     ensures { SequencesTellApart }
@@ -109,16 +112,16 @@ pub fn sessions_tell_apart()
     ensures told { OfStatuses }
 {}
 
-/// Of runs that a world made itself: the first logon in a world, of whatever plan, where it is granted, is clear, and
-/// its member lets in who asked. So is the example's, whose moves are a schedule in which one client logs on. So the
-/// claims on clear runs speak of runs that there are.
+/// Of runs that a world made itself: the first logon of any plan in which nothing seals runs clear where it is granted
+/// and its key arrives, and its member lets in who asked. The run of the example is clear too: its moves are a schedule
+/// in which one client logs on. The claims on clear runs therefore speak of runs that there are.
 #[tactic(auto, using(crate::proofs::Runs::ClearRunLaws::first_logons_are_clear))]
 pub fn a_run_is_clear()
     ensures { FirstLogonsAreClear }
 {}
 
-/// The client of that example can succeed, as completeness asks it of a client: her account may log on in each state of
-/// the run. The run meets all premises of completeness, and she is in, as completeness says it.
+/// The client of the example, ann, can succeed, as completeness asks it of a client: her account may log on in each
+/// state of the run. The run meets all premises of completeness, and she is in, as completeness says it.
 #[tactic(auto, using(crate::proofs::Runs::ClearSuccessLaws::ann_can_succeed))]
 pub fn ann_can_succeed()
     ensures { AnnCanSucceed }
@@ -131,9 +134,9 @@ pub fn success_tells_apart()
     ensures { SuccessTellsApart }
 {}
 
-/// All that is proved of runs is so of the run of that example, which is a clear schedule. So a message of it is
-/// accepted, on its controller's answer and by the link's unused challenge. The client made it for the CHALLENGE of the
-/// link, and the member lets in with the client's key.
+/// All that is proved of runs holds of the run of the example, which is a clear schedule. A message of it is accepted,
+/// on its controller's answer and by the link's unused challenge. The client made it for the CHALLENGE of the link, and
+/// the member lets in with the client's key.
 #[tactic(auto, using(crate::proofs::Runs::AnnAcceptedLaws::ann_is_accepted))]
 pub fn ann_is_accepted()
     ensures { AnnIsAccepted }
