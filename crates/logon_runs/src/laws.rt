@@ -19,6 +19,7 @@ ghost use Rattle.logon_runs.specs.Grants.{GrantsAreTold};
 ghost use Rattle.logon_runs.specs.GrantsTold.{GrantsTell};
 ghost use Rattle.logon_runs.specs.OtherKeys.Differing.{KeysMayDiffer};
 ghost use Rattle.logon_runs.specs.OtherKeys.LetIn.{GrantsGoOn};
+ghost use Rattle.logon_runs.specs.Scenes.HopScenes.{HopTurnsAreSeen};
 ghost use Rattle.logon_runs.specs.Scenes.LinkScenes.{MeetingsAreSeen};
 ghost use Rattle.logon_runs.specs.Scenes.Others.{OthersAreLeft};
 ghost use Rattle.logon_runs.specs.Phases.{PhasesGoOn};
@@ -29,6 +30,7 @@ ghost use Rattle.logon_runs.specs.SecretRests.{SetsLeaveOthers};
 ghost use Rattle.logon_runs.specs.Scenes.SetScenes.{SetsAreSeen};
 ghost use Rattle.logon_runs.specs.Scenes.Starts.{StartsAreSeen};
 ghost use Rattle.logon_runs.specs.Scenes.Staying.{EndsStay};
+ghost use Rattle.logon_runs.specs.Scenes.Traffic.{TrafficGoesOn};
 ghost use Rattle.logon_runs.specs.Scenes.TurnScenes.{TurnsAreSeen};
 ghost use Rattle.logon_runs.specs.Failing.TurnedAway.{LogonsAreTurnedAway};
 ghost use Rattle.logon_runs.specs.Scenes.Turnings.{ScenesTurn};
@@ -47,6 +49,13 @@ pub fn what_waits_comes()
 #[tactic(auto, using(crate::proofs::Scenes::StayingLaws::ends_stay))]
 pub fn ends_stay()
     ensures { EndsStay }
+{}
+
+/// What becomes of what is under way in a world, and of its ends, follows from the steps of the ends that hear,
+/// whatever the others are: where a unit comes, a link is closed, a dial is answered or fails, and where time passes.
+#[tactic(auto, using(crate::proofs::Scenes::TrafficLaws::traffic_goes_on))]
+pub fn traffic_goes_on()
+    ensures { TrafficGoesOn }
 {}
 
 /// What comes of the oldest unit is seen of the ends, the links and what waits alone, where the end
@@ -278,4 +287,11 @@ pub fn logons_rest()
 #[tactic(auto, using(crate::proofs::SecretRestLaws::sets_leave_others))]
 pub fn sets_leave_others()
     ensures { SetsLeaveOthers }
+{}
+
+/// The turns of a controller that hands a logon on, with the trusted domain's controller, are seen of a world move by
+/// move: from the first dial to the answer that goes back, whatever the other controller answers.
+#[tactic(auto, using(crate::proofs::Scenes::HopSceneLaws::hop_turns_are_seen))]
+pub fn hop_turns_are_seen()
+    ensures { HopTurnsAreSeen }
 {}

@@ -31,7 +31,7 @@ use Rattle.logon_steps.specs.Calling.{CallsCanGo}
 use Rattle.logon_steps.specs.MemberAnswers.{granting}
 use Rattle.logon_steps.specs.Turning.{IsTurnReply}
 
-are_units : (bytes : List ℕ) → All IsNameByte bytes → AreUnits bytes
+pub are_units : (bytes : List ℕ) → All IsNameByte bytes → AreUnits bytes
 are_units bytes all place =
     elim (cases_lt place (length bytes)) [
       | inl within ↦ omega (arith, (All-get_or IsNameByte bytes place 0 within all).1)
@@ -40,7 +40,7 @@ are_units bytes all place =
 
 -- ---- the reply that grants
 
-hidden_block : (none : Bool) (session key : List ℕ) → IsBlock 16 key → IsBlock 16 (crypt_by none session key)
+pub hidden_block : (none : Bool) (session key : List ℕ) → IsBlock 16 key → IsBlock 16 (crypt_by none session key)
 hidden_block true session key is = is
 hidden_block false session key is = (
   length-applied session 0 key ∙ is.0,

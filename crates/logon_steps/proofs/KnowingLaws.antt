@@ -58,7 +58,7 @@ passes_found test (one ∷ items) item is =
 and_true : (one other : Bool) → one ≡ true → other ≡ true → (one && other) ≡ true
 and_true one other is so = ap₂ (λ (a b : Bool). a && b) is so
 
-narrow : {T : Type 0} (test more : T → Bool) (items : List T) (item : T) → found_at test items (place_of test items) ≡ Some item → more item ≡ true →
+pub narrow : {T : Type 0} (test more : T → Bool) (items : List T) (item : T) → found_at test items (place_of test items) ≡ Some item → more item ≡ true →
     found_at (λ i. test i && more i) items (place_of (λ i. test i && more i) items) ≡ Some item
 narrow test more [] item is also = absurd cc
 narrow test more (one ∷ items) item is also =
@@ -71,7 +71,7 @@ narrow test more (one ∷ items) item is also =
           ∙ narrow test more items item (sym (later test one items fails) ∙ is) also
     ]
 
-or_either : (one other : Bool) → other ≡ true → (one || other) ≡ true
+pub or_either : (one other : Bool) → other ≡ true → (one || other) ≡ true
 or_either true other is = refl
 or_either false other is = is
 

@@ -106,7 +106,7 @@ set_reply_comes number r is = record {
 
 -- ---- at the controller
 
-call_read : (c : SetCall) → IsSetTurn c → set_call_of (written_set_call c) ≡ Ok c
+pub call_read : (c : SetCall) → IsSetTurn c → set_call_of (written_set_call c) ≡ Ok c
 unfolding set_call_of
 call_read c is = stub_again set_call c _ (written_set_call c) (call_stub c is.sends.writes is.sends.range)
 

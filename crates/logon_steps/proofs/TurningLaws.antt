@@ -210,7 +210,7 @@ reply_taken s number place q r is =
     ∙ ap (λ (read : Result Reply StubRefused). act (hear_reply q read) (turn_at number place (step.Reply q) s)) (reply_of-written_reply r is.writes is.range)
 
 -- it is whole
-ack_whole : (number : ℕ) → answer_of None (turn_ack number) ≡ Ok (Some (turn_ack number))
+pub ack_whole : (number : ℕ) → answer_of None (turn_ack number) ≡ Ok (Some (turn_ack number))
 unfolding joined_of
 ack_whole number = refl
 

@@ -4,10 +4,13 @@
 ghost use Rattle.logon_steps.specs.Answering.{CallsAreAnswered};
 ghost use Rattle.logon_steps.specs.Answers.{AnswersAreAsked};
 ghost use Rattle.logon_steps.specs.Asking.{LogonsAreAsked};
+ghost use Rattle.logon_steps.specs.BesideTrusts.{AnswersBesideTrusts};
 ghost use Rattle.logon_steps.specs.Calling.{CallsCanGo};
 ghost use Rattle.logon_steps.specs.ClientSteps.{ClientsStep};
 ghost use Rattle.logon_steps.specs.ControllerTurns.{ControllersStep};
 ghost use Rattle.logon_steps.specs.Granting.{LogonsAreGranted};
+ghost use Rattle.logon_steps.specs.HandedCalls.{HandedCallsGo, TrustsAreKnown};
+ghost use Rattle.logon_steps.specs.HandedOn.{HandedTurnsStep, LogonsAreHandedOn};
 ghost use Rattle.logon_steps.specs.Knowing.{ComputersAreKnown};
 ghost use Rattle.logon_steps.specs.Meeting.{Meets};
 ghost use Rattle.logon_steps.specs.MemberAnswers.{LogonsEnd};
@@ -143,4 +146,36 @@ pub fn set_turns_step()
 #[tactic(auto, using(crate::proofs::SetTurnLaws::controllers_set))]
 pub fn controllers_set()
     ensures { ControllersSet }
+{}
+
+/// A controller that trusts other domains, and asks no other controller for a logon, answers on the one link that is
+/// open there as one that trusts none, unless a logon comes for a trusted domain. What it keeps of those who ask stays.
+#[tactic(auto, using(crate::proofs::BesideTrustsLaws::trusts_stay_beside))]
+pub fn trusts_stay_beside()
+    ensures { AnswersBesideTrusts }
+{}
+
+/// A logon that comes for a trusted domain is told to be handed on, and the domain's controller is dialled.
+#[tactic(auto, using(crate::proofs::HandedOnLaws::logons_are_handed_on))]
+pub fn logons_are_handed_on()
+    ensures { LogonsAreHandedOn }
+{}
+
+/// The turns of a logon that was handed on, until its verdict goes back, or that there is none.
+#[tactic(auto, using(crate::proofs::HandedOnLaws::handed_turns_step))]
+pub fn handed_turns_step()
+    ensures { HandedTurnsStep }
+{}
+
+/// What is said on behalf of a logon that is handed on can be written, joined and read.
+#[tactic(auto, using(crate::proofs::HandedCallsLaws::handed_calls_go))]
+pub fn handed_calls_go()
+    ensures { HandedCallsGo }
+{}
+
+/// A controller that has a trust's account for the domain that asks knows who asks, and finds that account for its
+/// channel, also after it has judged logons.
+#[tactic(auto, using(crate::proofs::HandedCallsLaws::trusts_are_known))]
+pub fn trusts_are_known()
+    ensures { TrustsAreKnown }
 {}
