@@ -1,6 +1,7 @@
 pub mod ClaimLaws
 pub mod CompletenessLaws
 pub mod GrantExampleLaws
+pub mod KindExampleLaws
 pub mod LetInExampleLaws
 pub mod LogonLaws
 pub mod NearMissLaws

@@ -1,6 +1,6 @@
 -- Near misses that were written down by hand.
 -- It serves `near_misses_tell_apart`.
-use Rattle.std.proofs.Common.{◌≡◌, ◌≢◌, ◌+◌, ℕ, zero, suc, Bool, true, false, List, [], ◌∷◌, length, inl, inr, Some, None, refl, sym, ap, ◌∙◌, subst, arith, slice_get, replicate, ◌<◌, Option, if◌then◌else◌, codes}
+use Rattle.std.proofs.Common.{◌≡◌, ◌==◌, ◌≢◌, ◌≤◌, ◌+◌, ℕ, zero, suc, Bool, true, false, List, [], ◌∷◌, length, inl, inr, Some, None, refl, sym, ap, ◌∙◌, subst, arith, slice_get, replicate, ◌<◌, Option, if◌then◌else◌, codes}
 use Rattle.std.specs.Prelude.{◌%◌, ◌^◌}
 use Rattle.std.proofs.lemmas.Bool.{eqb-true}
 use Rattle.wire_base.specs.Maps.{lookup, same_number}
@@ -58,12 +58,12 @@ use Rattle.domain_world.specs.Accepting.Carried.{IsPlain, IsWholeAsMarked, IsWho
 use Rattle.domain_world.proofs.Accepting.CarriedLaws.{one_unit}
 use Rattle.domain_world.proofs.Moves.PlainFormLaws.{plain_is}
 use Rattle.domain_world.specs.Claims.MarkedUnits.{CallsAreMarked, IsMarkedAsCall, IsMarkedAsReply, RepliesAreMarked}
-use Rattle.domain_world.specs.Claims.{IsAccepted, IsClear, IsGrantedBy, IsItsControllersAnswer, IsPlainlyAccepted, passed_on, judged_timestamp}
+use Rattle.domain_world.specs.Claims.{TellsOfForwards, IsAccepted, IsClear, IsGrantedBy, IsItsControllersAnswer, IsPlainlyAccepted, passed_on, judged_timestamp, counts_by}
 use Rattle.domain_world.specs.Claims.Counts.{RaisesCount}
 use Rattle.domain_world.specs.Past.{Past, sent_at}
-use Rattle.claim_examples.specs.ClaimExamples.{challenge_on, client_plan, elsewhere, extended_flags, judged_as, judging, last_timestamp, made_keeping, message, message_of_link, on_channel, one_logon, open_running, small_account, small_challenge, small_hash, small_logon, small_member, small_name, small_plan, small_run, small_table, small_world}
+use Rattle.claim_examples.specs.ClaimExamples.{challenge_on, client_plan, elsewhere, extended_flags, judged_as, judging, last_timestamp, made_keeping, message, message_of_link, on_channel, one_logon, open_running, small_account, small_challenge, small_hash, small_logon, small_member, small_name, small_plan, run_in, small_run, small_table, small_world}
 use Rattle.claim_examples.specs.GrantExamples.{wrong_call}
-use Rattle.claim_examples.specs.NearMisses.{replied_at, NearMissesTellApart, OfAcceptingAll, OfAcceptingOnly, OfAsking, OfClearRuns, OfCounts, OfHandingOn, OfKeeping, OfKeys, OfLeavingOut, OfMaking, OfMarks, OfWhole, carried_in, OfSchedules, OfShortResponses, OfTables, OfTelling, OfUnits, OfWritingDown, at_two_members, barred_again, bob, called_as, each_move, extended_taken, foreign, half_timestamp, handed_for, in_client, judged_by, judged_two, keeping, kept_client, kept_link, kept_running, kept_terms, locking_table, long_taken, noting, passed_for, sent_one, small_bound, taking, ten_keeping, untold, waiting_on, wrong_among}
+use Rattle.claim_examples.specs.NearMisses.{replied_at, NearMissesTellApart, OfAcceptingAll, OfAcceptingOnly, OfAsking, OfClearRuns, OfCounts, OfHandingOn, OfKeeping, OfKeys, OfLeavingOut, OfMaking, OfMarks, OfWhole, carried_in, OfSchedules, OfShortResponses, OfTables, OfTelling, OfUnits, OfWritingDown, at_two_members, barred_again, bob, called_as, each_move, extended_taken, foreign, half_timestamp, handed_for, in_client, judged_by, judged_two, keeping, kept_client, kept_link, kept_running, kept_terms, locking_table, long_taken, noting, passed_for, sent_one, small_bound, taking, telling, ten_keeping, told_so, untold, waiting_on, waiting_state, wrong_among}
 use Rattle.claim_examples.proofs.ClaimLaws.{its_controller, moved_by_one, of_wraps, the_two}
 use Rattle.claim_examples.proofs.CompletenessLaws.{lost_schedule}
 use Rattle.claim_examples.proofs.LogonLaws.{extended_pair, free_small, granted_small, only_draw, plain_small, stored_small, this_step}
@@ -659,11 +659,38 @@ of_keeping = record {
   ];
 }
 
+-- another controller told nothing
+calls_so : TellsOfForwards (told_so (telling (judged.Barred ∷ [])))
+calls_so zero = omega arith
+calls_so (suc k) = omega arith
+
+meets_so : TellsOfForwards (told_so (telling (judged.Answered 0 ∷ judged.Passed 0 ∷ judged.Forwarded ∷ [])))
+meets_so zero = omega arith
+meets_so (suc k) = omega arith
+
+none_counted : (is_its : Bool) → counts_by is_its 0 ≡ 0
+none_counted true = refl
+none_counted false = refl
+
+waits_so : TellsOfForwards (run_in (record small_world { state = waiting_state }) (record blank { judgements = telling (judged.Forwarded ∷ []) }))
+waits_so zero = omega arith
+waits_so (suc k) = omega (arith, none_counted (0 == suc k))
+
+forgotten_so : TellsOfForwards (told_so (telling (judged.Forwarded ∷ [])))
+forgotten_so zero = omega arith
+forgotten_so (suc k) = omega (arith, none_counted (0 == suc k))
+
 of_telling : OfTelling
 of_telling = record {
-  meets = ((refl, (λ is. absurd (let never : judged.Barred ≡ judged.Forwarded = is in cc))), tt);
-  fails = λ claim. absurd (let never : false ≡ true = claim.0.0 in cc);
-  fails_forwarded = λ claim. claim.0.1 refl;
+  calls = calls_so;
+  meets = meets_so;
+  waits = waits_so;
+  forgotten = forgotten_so;
+  fails = λ claim. absurd (let never : 1 ≤ 0 = claim 0 in omega (arith, never));
+  fails_twice = λ claim. absurd (let never : 2 ≤ 1 = claim 0 in omega (arith, never));
+  fails_elsewhere = λ claim. absurd (let never : 1 ≤ 0 = claim 0 in omega (arith, never));
+  fails_waiting = λ claim. absurd (let never : 2 ≤ 1 = claim 0 in omega (arith, never));
+  fails_untold = λ claim. absurd (let never : 1 ≤ 0 = claim 0 in omega (arith, never));
 }
 
 -- ---- the accounts of controllers

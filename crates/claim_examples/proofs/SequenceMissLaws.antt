@@ -10,6 +10,8 @@ use Rattle.authenticators.specs.Sequences.{moved_by}
 use Rattle.authenticators.specs.SecureChannels.{channel_of, SecureChannelState}
 use Rattle.authenticators.proofs.SeedLaws.{add_to-same}
 use Rattle.channel_client.specs.declared.state.Pending.{Pending}
+use Rattle.channel_turns.specs.declared.state.Dialling.{Dialling}
+use Rattle.channel_turns.specs.declared.state.Dialling.TheVariants as dialling
 use Rattle.domain_controller.specs.State.{State as ControllerState}
 use Rattle.domain_controller.specs.declared.state.Running.{Running as ControllerRunning}
 use Rattle.member_server.specs.State.{State as MemberState}
@@ -19,14 +21,15 @@ use Rattle.channel_events.specs.Marks.{Calling, Plain, ReplyTo}
 use Rattle.wire_base.proofs.ListLaws.{got_nothing, one_weaker, some_is}
 use Rattle.step_notes.specs.ControllerNotes.{has_passed}
 use Rattle.step_notes.specs.Records.{Book, ChannelTurn, InUnit, Judging, OfMember, Sent, blank, RequesterId}
-use Rattle.world_moves.specs.declared.links.EndId.TheVariants.{Member, Client}
+use Rattle.world_moves.specs.declared.links.EndId.{EndId}
+use Rattle.world_moves.specs.declared.links.EndId.TheVariants.{Controller, Member, Client}
 use Rattle.world_moves.specs.declared.state.State.{State}
 use Rattle.domain_world.specs.Accepting.Sequences.{AnswersCall, AreSoFar, CallsOfTurns, HavePassed, IsMadeOn, IsPassedIn, TurnsAreCalled, stamps_of}
 use Rattle.channel_events.specs.Seeds.{channel_seed}
-use Rattle.domain_world.specs.Claims.SharedSequences.{HasOneTurnOut, IsBeforeTurn, ChannelIsKept, SequencesAreOwn, SequencesAreShared, ChannelStands, any_foreign, dials_of, timestamps_on}
+use Rattle.domain_world.specs.Claims.SharedSequences.{HasOneTrustTurnOut, HasOneTurnOut, OneTurnIsOut, IsBeforeTurn, ChannelIsKept, SequencesAreOwn, SequencesAreShared, ChannelStands, any_foreign, dials_of, timestamps_on}
 use Rattle.domain_world.specs.Past.{sent_at, controller_asked, requester_at}
 use Rattle.claim_examples.specs.ClaimExamples.{elsewhere, judged_as, on_channel, one_turn, small_channel, open_running, seed_after_one, small_name, small_seed, small_turn, turn_out}
-use Rattle.claim_examples.specs.SequenceMisses.{OfCalls, OfOneTurn, OfReplyCalls, OfSequenceMisses, SequencesTellApart, called_once, controller_on, empty_unit, in_unit, judged_outside, kept_whole, member_on, mixed_turns, moved_seed, passed_then, reply_past, replied_for, run_by, run_dials, run_small, sent_as, whole_name}
+use Rattle.claim_examples.specs.SequenceMisses.{OfCalls, OfOneTurn, OfReplyCalls, OfSequenceMisses, SequencesTellApart, asking_controller, called_once, controller_on, dial_waits, empty_unit, in_unit, judged_outside, kept_whole, member_on, mixed_turns, moved_seed, passed_then, reply_past, replied_for, run_by, run_dials, run_small, run_trusting, sent_as, whole_name}
 use Rattle.claim_examples.proofs.SequenceLaws.{no_turn, not_one_byte, one_stamp, same_small, shared_small}
 use Rattle.wire_base.specs.Names as names
 use Rattle.outside.specs.declared.action.Judged.TheVariants as judged
@@ -263,22 +266,71 @@ the_running turn o member m running there runs =
 abbrev idle : MemberRunning
 idle = running_on None (small_channel small_seed)
 
+-- of the controller of such a run
+asks : (turns : List (Option Pending)) (how : Dialling) (ends : List EndId) → OneTurnIsOut (run_trusting turns how ends) → HasOneTrustTurnOut (run_trusting turns how ends).world.state 0 (asking_controller turns how)
+asks turns how ends claim =
+    claim.controllers 0 (asking_controller turns how)
+    (record { computers = record { pending = []; channels = (codes "FILE1", small_channel small_seed) ∷ []; sessions = [] }; links = [] }) refl refl
+
+-- one controller
+the_one : (first : ControllerState) (controller : ℕ) (c : ControllerState) → slice_get (first ∷ []) controller ≡ Some c → (controller ≡ 0) × (first ≡ c)
+the_one first zero c at = (refl, cc)
+the_one first (suc controller) c at = absurd cc
+
+by_one : (s : State) (first : ControllerState) → HasOneTrustTurnOut s 0 first → (controller : ℕ) (c : ControllerState) (running : ControllerRunning) → slice_get (first ∷ []) controller ≡ Some c →
+    c.running ≡ Some running → HasOneTrustTurnOut s controller c
+by_one s first has controller c running at runs =
+    let it = the_one first controller c at in
+    subst (λ (one : ControllerState). HasOneTrustTurnOut s controller one) it.1 (subst (λ (k : ℕ). HasOneTrustTurnOut s k first) (sym it.0) has)
+
 of_one_turn : OfOneTurn
 of_one_turn = record {
-  meets = λ member m running there runs.
-      let it = the_running None (small_channel small_seed) member m running there runs in
+  meets =
       let s : State = (run_dials (Member 1 ∷ Client 0 ∷ [])).world.state in
-      let none : length (dials_of 0 s.dials) ≡ 0 = refl in
-      subst (λ (r : MemberRunning). HasOneTurnOut s member r) it.1
-      (subst (λ (k : ℕ). HasOneTurnOut s k idle) (sym it.0) (record { out = refl; few = omega (arith, none); waits = λ some. absurd (omega (arith, none, some)) }));
+      let none : length (dials_of (Member 0) s.dials) ≡ 0 = refl in
+      let none_there : length (dials_of (Controller 0) s.dials) ≡ 0 = refl in
+      record {
+        members = λ member m running there runs.
+            let it = the_running None (small_channel small_seed) member m running there runs in
+            subst (λ (r : MemberRunning). HasOneTurnOut s member r) it.1
+            (subst (λ (k : ℕ). HasOneTurnOut s k idle) (sym it.0) (record { out = refl; few = omega (arith, none); waits = λ some. absurd (omega (arith, none, some)) }));
+        controllers = by_one s (controller_on (codes "FILE1") (small_channel small_seed)) (record {
+          one = record { outs = refl; inside = λ out. absurd (let x : true ≡ false = out in cc) };
+          few = omega (arith, none_there);
+          waits = λ some. absurd (omega (arith, none_there, some));
+        });
+      };
   fails_two = λ claim.
-      let two : length (dials_of 0 (run_dials (Member 0 ∷ Client 0 ∷ Member 0 ∷ [])).world.state.dials) ≡ 2 = refl in
-      absurd (omega (arith, two, (claim 0 (member_on None (small_channel small_seed)) idle refl refl).few));
+      let two : length (dials_of (Member 0) (run_dials (Member 0 ∷ Client 0 ∷ Member 0 ∷ [])).world.state.dials) ≡ 2 = refl in
+      absurd (omega (arith, two, (claim.members 0 (member_on None (small_channel small_seed)) idle refl refl).few));
   fails_idle = λ claim.
-      let one : length (dials_of 0 (run_dials (Member 0 ∷ [])).world.state.dials) ≡ 1 = refl in
-      (claim 0 (member_on None (small_channel small_seed)) idle refl refl).waits (omega (arith, one));
+      let one : length (dials_of (Member 0) (run_dials (Member 0 ∷ [])).world.state.dials) ≡ 1 = refl in
+      (claim.members 0 (member_on None (small_channel small_seed)) idle refl refl).waits (omega (arith, one));
   fails_undialled = λ claim.
-      absurd (let never : true ≡ false = (claim 0 (member_on (Some turn_out) (small_channel small_seed)) (running_on (Some turn_out) (small_channel small_seed)) refl refl).out in cc);
+      absurd (let never : true ≡ false = (claim.members 0 (member_on (Some turn_out) (small_channel small_seed)) (running_on (Some turn_out) (small_channel small_seed)) refl refl).out in cc);
+  trusts =
+      let s : State = (run_trusting (None ∷ Some turn_out ∷ []) dial_waits (Controller 0 ∷ Client 0 ∷ [])).world.state in
+      let one_dial : length (dials_of (Controller 0) s.dials) ≡ 1 = refl in
+      record {
+        members = λ member m running there runs. absurd (got_nothing member m there);
+        controllers = by_one s (asking_controller (None ∷ Some turn_out ∷ []) dial_waits) (record {
+          one = record { outs = refl; inside = λ out. omega arith };
+          few = omega (arith, one_dial);
+          waits = λ some. tt;
+        });
+      };
+  fails_both = λ claim.
+      absurd (let never : true ∷ true ∷ [] ≡ false ∷ true ∷ [] = (asks (Some turn_out ∷ Some turn_out ∷ []) dial_waits (Controller 0 ∷ []) claim).one.outs in cc);
+  fails_first = λ claim.
+      absurd (let never : true ∷ false ∷ [] ≡ false ∷ true ∷ [] = (asks (Some turn_out ∷ None ∷ []) dial_waits (Controller 0 ∷ []) claim).one.outs in cc);
+  fails_two_dials = λ claim.
+      let two : length (dials_of (Controller 0) (run_trusting (None ∷ Some turn_out ∷ []) dial_waits (Controller 0 ∷ Controller 0 ∷ [])).world.state.dials) ≡ 2 = refl in
+      absurd (omega (arith, two, (asks (None ∷ Some turn_out ∷ []) dial_waits (Controller 0 ∷ Controller 0 ∷ []) claim).few));
+  fails_no_turn = λ claim.
+      let one : length (dials_of (Controller 0) (run_trusting (None ∷ None ∷ []) dialling.Nothing (Controller 0 ∷ [])).world.state.dials) ≡ 1 = refl in
+      (asks (None ∷ None ∷ []) dialling.Nothing (Controller 0 ∷ []) claim).waits (omega (arith, one));
+  fails_undialled_trust = λ claim.
+      absurd (let never : false ∷ true ∷ [] ≡ false ∷ false ∷ [] = (asks (None ∷ Some turn_out ∷ []) dialling.Nothing [] claim).one.outs in cc);
 }
 
 -- ---- the calls of turns

@@ -1,6 +1,6 @@
 -- Interactive logons that were written down by hand, and the sessions behind them: which meet the claims, and which
 -- don't. It serves `sessions_tell_apart`.
-use Rattle.std.proofs.Common.{◌≡◌, ℕ, zero, suc, ◌≤◌, ◌<◌, true, false, inr, List, [], ◌∷◌, length, replicate, get_or, Some, refl, sym, ap, subst, ◌∙◌, arith}
+use Rattle.std.proofs.Common.{◌≡◌, ◌⊎◌, ℕ, zero, suc, ◌≤◌, ◌<◌, true, false, inl, inr, List, [], ◌∷◌, length, replicate, get_or, Some, refl, sym, ap, subst, ◌∙◌, arith}
 use Rattle.std.specs.Prelude.{codes}
 use Rattle.std.proofs.lemmas.List.{length-replicate}
 use Rattle.wire_base.specs.Names as names
@@ -11,17 +11,19 @@ use Rattle.authenticators.specs.SecureChannels.{SecureChannelState, key_of_chann
 use Rattle.authenticators.specs.Sequences.{authenticator_of}
 use Rattle.outside.specs.declared.action.Judged.{Judged}
 use Rattle.outside.specs.declared.action.Judged.TheVariants as judged
-use Rattle.logon_stubs.specs.Status.{insufficient_resources, no_such_logon_session, no_trust_sam_account, wrong_password}
+use Rattle.logon_stubs.specs.Status.{insufficient_resources, no_logon_servers, no_such_logon_session, no_trust_sam_account, wrong_password}
 use Rattle.logon_stubs.specs.declared.info.Verdict.{Verdict}
 use Rattle.logon_stubs.specs.declared.info.Verdict.TheVariants.{Granted, Status}
 use Rattle.interactive_logon.specs.declared.calls.InteractiveInfo.{InteractiveInfo}
 use Rattle.interactive_logon.specs.declared.sessions.Session.{Session}
 use Rattle.interactive_logon.specs.Sessions.{added_to, session_limit, session_of}
-use Rattle.account_table.specs.LookUps.{machine_in, place_in}
+use Rattle.account_table.specs.LookUps.{machine_in, place_in, route_in}
+use Rattle.account_table.specs.declared.table.Route.TheVariants as route
 use Rattle.sam_logon.specs.MayLogOn.{HashIsStored}
 use Rattle.sam_logon.specs.Verdict.{interactive_judgement_of, interactive_verdict_of, is_granted}
 use Rattle.sam_logon.proofs.VerdictLaws.{interactive_verdict_of-Decides}
 use Rattle.controller_calls.specs.Doing.{sessions_after}
+use Rattle.controller_calls.specs.Handing.{hands_on}
 use Rattle.controller_calls.specs.Interactive.{shown_hash}
 use Rattle.domain_controller.specs.State.{State as ControllerState}
 use Rattle.domain_controller.specs.declared.state.Running.{Running}
@@ -32,12 +34,12 @@ use Rattle.step_notes.proofs.Controllers.GrantVerdictLaws.{not_zero}
 use Rattle.step_notes.proofs.Controllers.JudgedStepLaws.{same_status}
 use Rattle.domain_world.specs.Claims.{info_asked}
 use Rattle.domain_world.specs.Claims.Grants.{IsToBeLetOn}
-use Rattle.domain_world.specs.Claims.Statuses.{TellsItsStatus}
+use Rattle.domain_world.specs.Claims.Statuses.{IsForTrusted, IsToldRightly, TellsItsStatus}
 use Rattle.domain_world.specs.Claims.Sessions.{AreBySince, ControllerRenewed, HasSessions, SessionsFollow, last_start, sessions_behind, sessions_since}
 use Rattle.wire_base.proofs.ListLaws.{got_nothing, some_is}
-use Rattle.claim_examples.specs.ClaimExamples.{judged_as, message, small_channel, small_hash, small_table}
+use Rattle.claim_examples.specs.ClaimExamples.{judged_as, message, small_channel, small_hash, small_plan, small_table}
 use Rattle.claim_examples.specs.CompletenessExamples.{able_table, ann_accounts}
-use Rattle.claim_examples.specs.SessionExamples.{OfHashGrants, OfSessions, OfStatuses, ann_call, ann_session, barred_by, controller_with, hash_call, hash_info, hash_logon, logoff_call, other_hash, renewed_by, run_with, running_with, set_call, too_many}
+use Rattle.claim_examples.specs.SessionExamples.{OfHashGrants, OfSessions, OfStatuses, ann_call, ann_session, barred_by, controller_with, handing_plan, hash_call, hash_info, hash_logon, logoff_call, other_hash, renewed_by, roam_call, run_with, running_with, set_call, too_many, trusting_table, typed_channel}
 use Rattle.claim_examples.proofs.ClaimLaws.{no_channel}
 use Rattle.claim_examples.proofs.GrantExampleLaws.{may_small}
 
@@ -189,18 +191,71 @@ tells_so : (status : ℕ) (j : Judging) → j.checks ≡ Some (small_channel [])
 tells_so status j checks is channel stands passed =
     ap (λ (n : ℕ). Some (judged.Passed n)) (sym is ∙ ap (λ (c : SecureChannelState). (done_on j c).status) (some_is (small_channel []) channel (sym checks ∙ stands)))
 
-status_of_two : (told status : ℕ) (j : Judging) → j.checks ≡ Some (small_channel []) → (done_on j (small_channel [])).status ≡ status → TellsItsStatus (judged_as (judged.Passed told) j) → told ≡ status
-status_of_two told status j checks is tells = same_status told (done_on j (small_channel [])).status (tells (small_channel []) checks refl) ∙ is
+-- controllers of the small plan hand nothing on
+none_for : (j : Judging) (channel : SecureChannelState) → IsForTrusted small_plan j channel → ⊥
+none_for j channel for = absurd (let never : false ≡ true = for.hands in cc)
+
+rightly : (j : Judging) → TellsItsStatus j → IsToldRightly small_plan j
+rightly j tells channel stands passed = record { here = λ none. tells channel stands passed; elsewhere = λ for. absurd (none_for j channel for) }
+
+its_status : (j : Judging) → IsToldRightly small_plan j → TellsItsStatus j
+its_status j told channel stands passed = (told channel stands passed).here (λ for. none_for j channel for)
+
+status_of_two : (told status : ℕ) (j : Judging) → j.checks ≡ Some (small_channel []) → (done_on j (small_channel [])).status ≡ status → IsToldRightly small_plan (judged_as (judged.Passed told) j) → told ≡ status
+status_of_two told status j checks is tells =
+    same_status told (done_on j (small_channel [])).status (its_status (judged_as (judged.Passed told) j) tells (small_channel []) checks refl) ∙ is
+
+-- a logon for ROAM
+roam_routed : route_in trusting_table (codes "ROAM") ≡ route.Trust 0
+unfolding route_in same_name names.upper_of
+roam_routed = refl
+
+roam_for : (kind : ℕ) (how : Judged) → hands_on (Some kind) ≡ true → IsForTrusted handing_plan (roam_call kind how) (typed_channel kind)
+roam_for kind how hands = record {
+  hands = refl;
+  kind = hands;
+  info = record (info_asked message) { domain = codes "ROAM" };
+  validation = 3;
+  asks = refl;
+  level = refl;
+  trust = 0;
+  routed = roam_routed;
+}
+
+-- it is told so
+roam_told : (kind : ℕ) (how : Judged) → hands_on (Some kind) ≡ true → (how ≡ judged.Forwarded) ⊎ (how ≡ judged.Passed no_logon_servers) → IsToldRightly handing_plan (roam_call kind how)
+roam_told kind how hands either channel stands passed =
+    let same : typed_channel kind ≡ channel = some_is (typed_channel kind) channel stands in
+    record {
+      here = λ none. absurd (none (subst (λ (c : SecureChannelState). IsForTrusted handing_plan (roam_call kind how) c) same (roam_for kind how hands)));
+      elsewhere = λ for. elim either [
+        | inl is ↦ inl (ap (λ (h : Judged). Some h) is)
+        | inr is ↦ inr (ap (λ (h : Judged). Some h) is)
+      ];
+    }
+
+not_granted : (Some (judged.Passed 0) ≡ Some judged.Forwarded) ⊎ (Some (judged.Passed 0) ≡ Some (judged.Passed no_logon_servers)) → ⊥
+not_granted (inl is) = absurd (let x = is in cc)
+not_granted (inr is) = not_zero no_logon_servers refl (sym (same_status 0 no_logon_servers is))
+
+not_passed : (status : ℕ) → Some judged.Forwarded ≡ Some (judged.Passed status) → ⊥
+not_passed status is = absurd (let x = is in cc)
 
 pub of_statuses : OfStatuses
 of_statuses = record {
-  meets = (tells_so 0 (logoff_call ann_session) refl open_status, tt);
-  none = (tells_so no_such_logon_session (logoff_call []) refl none_status, tt);
+  meets = (rightly (logoff_call ann_session) (tells_so 0 (logoff_call ann_session) refl open_status), tt);
+  none = (rightly _ (tells_so no_such_logon_session (logoff_call []) refl none_status), tt);
   barred = ((λ channel stands passed. absurd (let never : false ≡ true = passed in cc)), tt);
   fails_open = λ claim. not_zero no_such_logon_session refl (status_of_two no_such_logon_session 0 (logoff_call ann_session) refl open_status claim.0);
   fails_none = λ claim. not_zero no_such_logon_session refl (sym (status_of_two 0 no_such_logon_session (logoff_call []) refl none_status claim.0));
-  set = (tells_so 0 (set_call (able_table ann_accounts)) refl set_status, tt);
-  set_none = (tells_so no_trust_sam_account (set_call small_table) refl set_none_status, tt);
+  set = (rightly _ (tells_so 0 (set_call (able_table ann_accounts)) refl set_status), tt);
+  set_none = (rightly _ (tells_so no_trust_sam_account (set_call small_table) refl set_none_status), tt);
   fails_set = λ claim. not_zero no_trust_sam_account refl (status_of_two no_trust_sam_account 0 (set_call (able_table ann_accounts)) refl set_status claim.0);
   fails_set_none = λ claim. not_zero no_trust_sam_account refl (sym (status_of_two 0 no_trust_sam_account (set_call small_table) refl set_none_status claim.0));
+  handed_on = (roam_told 2 judged.Forwarded refl (inl refl), tt);
+  full = (roam_told 6 (judged.Passed no_logon_servers) refl (inr refl), tt);
+  fails_granted = λ claim. not_granted ((claim.0 (typed_channel 2) refl refl).elsewhere (roam_for 2 (judged.Passed 0) refl));
+  fails_trust = λ claim.
+      not_passed _ ((claim.0 (typed_channel 4) refl refl).here (λ for. absurd (let never : false ≡ true = for.kind in cc)));
+  fails_alone = λ claim. not_passed _ ((claim.0 (typed_channel 2) refl refl).here (λ for. none_for (roam_call 2 judged.Forwarded) (typed_channel 2) for));
 }

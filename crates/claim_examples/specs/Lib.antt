@@ -5,6 +5,7 @@ pub mod ClearRuns
 pub mod ClearSuccess
 pub mod CompletenessExamples
 pub mod GrantExamples
+pub mod KindExamples
 pub mod LetInExamples
 pub mod NearMisses
 pub mod NeverApartExamples

@@ -1,7 +1,7 @@
 -- Near misses beside those of the other files (this project's own choice): runs that differ in one thing more from one
 -- that meets a claim, so that a claim which leaves that thing out, or which asks it besides, is told apart. Responses
 -- are the values of their functions.
-use Rattle.std.specs.Prelude.{ℕ, ◌≡◌, ◌-◌, ◌^◌, Bool, true, false, List, [], ◌∷◌, ◌++◌, replicate, Some, None, Ok, codes, slice_get, ◌%◌}
+use Rattle.std.specs.Prelude.{ℕ, ◌≡◌, ◌-◌, ◌^◌, Bool, true, false, List, [], ◌∷◌, ◌++◌, map, replicate, Some, None, Ok, codes, slice_get, ◌%◌}
 use Rattle.outside.specs.declared.action.Judged.{Judged}
 use Rattle.outside.specs.declared.action.Judged.TheVariants as judged
 use Rattle.ntlm_responses.specs.Hashes.{key_v2_of}
@@ -39,7 +39,7 @@ use Rattle.step_notes.specs.MemberNotes.{LinkAt, turn_note, turn_units}
 use Rattle.domain_world.specs.Claims.AskedFor.{MembersAskForKept, MembersAskForMessages}
 use Rattle.channel_events.specs.Marks.{Calling, Mark, Opened, Opening, Plain, ReplyTo}
 use Rattle.channel_events.specs.Requests.{fresh_view}
-use Rattle.step_notes.specs.Records.{Book, ChallengeSent, Forward, InUnit, Judging, MessageMade, MessageTaken, OfMember, Outside, blank}
+use Rattle.step_notes.specs.Records.{Book, ChallengeSent, Forward, InUnit, JudgementTold, Judging, MessageMade, MessageTaken, OfMember, Outside, blank}
 use Rattle.world_moves.specs.declared.bag.BagUnit.{BagUnit}
 use Rattle.world_moves.specs.declared.links.LinkKind.TheVariants as kind
 use Rattle.world_moves.specs.declared.state.State.{State}
@@ -48,7 +48,7 @@ use Rattle.world_moves.specs.declared.moves.Move.{Move}
 use Rattle.world_moves.specs.declared.moves.Move.TheVariants as move
 use Rattle.world_moves.specs.Forms.{IsSchedule}
 use Rattle.domain_world.specs.Accepting.Answered.{MarksHaveTheirWay, MessagesAreApart, PassesAreUnclashed}
-use Rattle.domain_world.specs.Claims.{AcceptsAllGranted, AcceptsOnlyGranted, IsClear, KeysAgree, ShortResponsesServeOnce, TellsOfCallsAlone, taken_answer_on}
+use Rattle.domain_world.specs.Claims.{AcceptsAllGranted, AcceptsOnlyGranted, IsClear, KeysAgree, ShortResponsesServeOnce, TellsOfForwards, taken_answer_on}
 use Rattle.domain_world.specs.Claims.Counts.{EachCallRaisesOnce, RaisesCount}
 use Rattle.domain_world.specs.Claims.LeftOut.{Answers, DrawsFor, Takes, TakesOn}
 use Rattle.domain_world.specs.Accepting.Carried.{MarkedUnitsAreWhole}
@@ -471,14 +471,29 @@ pub record OfSeeing : Type 0 where
   pub sees : seen_in small_world.state (OfMember 0) ≡ Some fresh_view
   pub none : seen_in small_world.state (OfMember 1) ≡ None
 
--- What is told judges a call, and hands none on: not what came of a logon that was asked of another controller.
-abbrev pub telling : Judged → Past
-telling how = small_run (record blank { judgements = record { at = 6; controller = 0; how = how } ∷ [] })
+-- what PDC told, and what another controller did, the newest first
+abbrev pub telling : List Judged → List JudgementTold
+telling hows = map (λ (how : Judged). record { at = 6; controller = 0; how = how }) hows
 
+abbrev pub told_elsewhere : List Judged → List JudgementTold
+told_elsewhere hows = map (λ (how : Judged). record { at = 6; controller = 1; how = how }) hows
+
+abbrev pub told_so : List JudgementTold → Past
+told_so told = small_run (record blank { judgements = told })
+
+-- A controller tells besides how calls came out that it handed on: not of one that it didn't hand on, nor twice of one,
+-- nor of another controller's, nor while it waits. That one was handed on and forgotten may be.
 pub record OfTelling : Type 0 where
-  pub meets : TellsOfCallsAlone (telling judged.Barred)
-  pub fails : TellsOfCallsAlone (telling (judged.Answered 0)) → ⊥
-  pub fails_forwarded : TellsOfCallsAlone (telling judged.Forwarded) → ⊥
+  pub calls : TellsOfForwards (told_so (telling (judged.Barred ∷ [])))
+  pub meets : TellsOfForwards (told_so (telling (judged.Answered 0 ∷ judged.Passed 0 ∷ judged.Forwarded ∷ [])))
+  pub waits : TellsOfForwards (run_in (record small_world { state = waiting_state }) (record blank { judgements = telling (judged.Forwarded ∷ []) }))
+  pub forgotten : TellsOfForwards (told_so (telling (judged.Forwarded ∷ [])))
+  pub fails : TellsOfForwards (told_so (telling (judged.Answered 0 ∷ judged.Passed 0 ∷ []))) → ⊥
+  pub fails_twice : TellsOfForwards (told_so (telling (judged.Answered 0 ∷ judged.Answered 0 ∷ judged.Forwarded ∷ []))) → ⊥
+  pub fails_elsewhere : TellsOfForwards (told_so (telling (judged.Answered 0 ∷ []) ++ told_elsewhere (judged.Forwarded ∷ []))) → ⊥
+  pub fails_waiting : TellsOfForwards
+      (run_in (record small_world { state = waiting_state }) (record blank { judgements = telling (judged.Answered 0 ∷ judged.Forwarded ∷ []) })) → ⊥
+  pub fails_untold : TellsOfForwards (run_in (record small_world { state = waiting_state }) blank) → ⊥
 
 -- ---- the accounts of controllers
 

@@ -1,6 +1,7 @@
 -- Openings that were written down by hand, of a run in which a controller keeps the channel of one computer, or a
 -- challenge waits there (this project's own choice).
 use Rattle.std.specs.Prelude.{ℕ, List, [], ◌∷◌, Some, None, codes, replicate}
+use Rattle.channel_keys.specs.ChannelTypes.{workstation_channel}
 use Rattle.controller_calls.specs.declared.state.Computers.{Computers}
 use Rattle.channel_events.specs.Marks.{Mark, Opened, Opening, Plain}
 use Rattle.step_notes.specs.Records.{ChannelAccepted, InUnit, Outside, blank}
@@ -12,7 +13,8 @@ use Rattle.claim_examples.specs.ClaimExamples.{keeping_controller, run_in, run_o
 
 -- the channel that is kept, as it was accepted; another one of its computer, and one of another computer
 abbrev pub small_accepted : ChannelAccepted
-small_accepted = record { at = 0; source = Outside; number = 2; channel = small_name; reply = None }
+small_accepted =
+    record { at = 0; source = Outside; number = 2; channel = small_name; kind = workstation_channel; reply = None }
 
 abbrev pub other_accepted : ChannelAccepted
 other_accepted = record small_accepted { channel = record small_name { server = replicate 8 9 } }

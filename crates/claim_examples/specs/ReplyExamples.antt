@@ -1,7 +1,7 @@
 -- Runs that were written down by hand on which what is claimed of replies holds, and some that differ from one of them
 -- in one thing, on which it doesn't (this project's own choice). Credentials and frames in them are the values of their
 -- functions.
-use Rattle.std.specs.Prelude.{ℕ, true, false, codes, List, [], ◌∷◌, Some}
+use Rattle.std.specs.Prelude.{ℕ, true, false, codes, List, [], ◌∷◌, Some, None}
 use Rattle.outside.specs.declared.action.Judged.TheVariants as judged
 use Rattle.authenticators.specs.Sequences.{authenticator_of}
 use Rattle.authenticators.specs.SecureChannels.{key_of_channel, channel_of}
@@ -13,6 +13,7 @@ use Rattle.step_notes.specs.Records.{Judging, blank}
 use Rattle.step_notes.specs.ReplySends.{reply_passed}
 use Rattle.world_moves.specs.declared.links.LinkKind.TheVariants as kind
 use Rattle.domain_world.specs.Claims.Replies.{RepliesCarryTheirJudgement}
+use Rattle.domain_world.specs.Claims.TrustReplies.{RepliesAreOfTheirCalls}
 use Rattle.domain_world.specs.Past.{Past, sent_at}
 use Rattle.claim_examples.specs.ClaimExamples.{judged_as, next_call, next_logon, run_in, small_channel, small_name, small_world}
 
@@ -42,6 +43,10 @@ replied_call = record next_call { reply = Some 0 }
 abbrev pub reply_mark : Mark
 reply_mark = ReplyTo small_name 3 7
 
+-- ann's call was handed on, and has no reply then
+abbrev pub handed_call : Judging
+handed_call = record (judged_as judged.Forwarded next_call) { reply = None }
+
 -- Replies: to ann's call on its channel, and of a unit that is marked as no reply.
 pub record OfReplies : Type 0 where
   pub meets : RepliesCarryTheirJudgement (reply_run small_reply reply_mark replied_call)
@@ -55,3 +60,12 @@ pub record OfReplies : Type 0 where
   pub fails_channel :
       RepliesCarryTheirJudgement (reply_run small_reply (ReplyTo (channel_of 1 (codes "FILE1") (small_channel [])) 3 7) replied_call) → ⊥
   pub fails_reply : RepliesCarryTheirJudgement (reply_run small_reply reply_mark next_call) → ⊥
+  -- so it is where controllers may hand logons on; a call that was handed on is answered by any bytes, on its channel
+  pub meets_too : RepliesAreOfTheirCalls (reply_run small_reply reply_mark replied_call)
+  pub handed_on : RepliesAreOfTheirCalls (reply_run [] reply_mark handed_call)
+  pub barred_too : RepliesAreOfTheirCalls (reply_run small_reply reply_mark (judged_as judged.Barred replied_call)) → ⊥
+  pub empty_too : RepliesAreOfTheirCalls (reply_run [] reply_mark replied_call) → ⊥
+  pub fails_handed_number : RepliesAreOfTheirCalls (reply_run [] (ReplyTo small_name 4 7) handed_call) → ⊥
+  pub fails_handed_unit : RepliesAreOfTheirCalls (reply_run [] (ReplyTo small_name 3 6) handed_call) → ⊥
+  pub fails_handed_channel :
+      RepliesAreOfTheirCalls (reply_run [] (ReplyTo (channel_of 1 (codes "FILE1") (small_channel [])) 3 7) handed_call) → ⊥

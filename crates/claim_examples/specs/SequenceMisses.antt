@@ -10,6 +10,8 @@ use Rattle.authenticators.specs.Sequences.{add_to}
 use Rattle.authenticators.specs.SecureChannels.{SecureChannelState, channel_of}
 use Rattle.channel_client.specs.declared.state.Pending.{Pending}
 use Rattle.channel_client.specs.declared.state.Standing.TheVariants as standing
+use Rattle.channel_turns.specs.declared.state.Dialling.{Dialling}
+use Rattle.channel_turns.specs.declared.state.Dialling.TheVariants as dialling
 use Rattle.domain_controller.specs.State.{State as ControllerState}
 use Rattle.domain_controller.specs.Trusting.{no_trusting}
 use Rattle.member_server.specs.State.{State as MemberState}
@@ -19,7 +21,7 @@ use Rattle.channel_events.specs.Marks.{Calling, Mark, Plain, ReplyTo}
 use Rattle.step_notes.specs.Records.{Book, ChannelTurn, InUnit, Judging, OfMember, Outside, blank}
 use Rattle.world_moves.specs.declared.bag.BagUnit.{BagUnit}
 use Rattle.world_moves.specs.declared.links.EndId.{EndId}
-use Rattle.world_moves.specs.declared.links.EndId.TheVariants.{Member, Client}
+use Rattle.world_moves.specs.declared.links.EndId.TheVariants.{Controller, Member, Client}
 use Rattle.world_moves.specs.declared.links.LinkKind.TheVariants as kind
 use Rattle.world_moves.specs.World.{World}
 use Rattle.domain_world.specs.Accepting.Sequences.{RepliesAnswerCalls, TurnsAreCalled}
@@ -151,13 +153,44 @@ run_dials ends =
       };
     }
 
+-- a controller that asks as many trusts as there are entries, of each of which that turn is out, if one is; its own
+-- turn is the second trust's, and so far
+abbrev pub asking_controller : List (Option Pending) → Dialling → ControllerState
+asking_controller turns how = record (controller_on (codes "FILE1") (small_channel small_seed)) {
+  trusting = record no_trusting {
+    queues = record { requesters = map (λ (turn : Option Pending). (open_running turn []).logons.channel) turns; forwarded = [] };
+    turn_of = 1;
+    dialling = how;
+  };
+}
+
+-- its dial waits, with no bind
+abbrev pub dial_waits : Dialling
+dial_waits = dialling.Waits tt []
+
+-- a run after which these ends' dials wait, where there is no other end than that controller
+abbrev pub run_trusting : List (Option Pending) → Dialling → List EndId → Past
+run_trusting turns how ends =
+    let w : World = world_by [] [] (asking_controller turns how ∷ []) in
+    run_in
+    (record w { state = record w.state { dials = map (λ (end : EndId). record { end = end; peer = [] }) ends } })
+    blank
+
 -- One turn is out: dials of others don't count; not where two dials of the member wait, where one does for which no
--- turn waits, or where a turn is out that wasn't dialled.
+-- turn waits, or where a turn is out that wasn't dialled. At a controller with two trusts one turn is out, that of the
+-- second; not where one of each is, where it is the first's, where two dials of the controller wait, where one does for
+-- which no turn waits, or where a turn is out that wasn't dialled.
 pub record OfOneTurn : Type 0 where
   pub meets : OneTurnIsOut (run_dials (Member 1 ∷ Client 0 ∷ []))
   pub fails_two : OneTurnIsOut (run_dials (Member 0 ∷ Client 0 ∷ Member 0 ∷ [])) → ⊥
   pub fails_idle : OneTurnIsOut (run_dials (Member 0 ∷ [])) → ⊥
   pub fails_undialled : OneTurnIsOut (run_by blank (Some turn_out) (small_channel small_seed) (codes "FILE1") (small_channel small_seed)) → ⊥
+  pub trusts : OneTurnIsOut (run_trusting (None ∷ Some turn_out ∷ []) dial_waits (Controller 0 ∷ Client 0 ∷ []))
+  pub fails_both : OneTurnIsOut (run_trusting (Some turn_out ∷ Some turn_out ∷ []) dial_waits (Controller 0 ∷ [])) → ⊥
+  pub fails_first : OneTurnIsOut (run_trusting (Some turn_out ∷ None ∷ []) dial_waits (Controller 0 ∷ [])) → ⊥
+  pub fails_two_dials : OneTurnIsOut (run_trusting (None ∷ Some turn_out ∷ []) dial_waits (Controller 0 ∷ Controller 0 ∷ [])) → ⊥
+  pub fails_no_turn : OneTurnIsOut (run_trusting (None ∷ None ∷ []) dialling.Nothing (Controller 0 ∷ [])) → ⊥
+  pub fails_undialled_trust : OneTurnIsOut (run_trusting (None ∷ Some turn_out ∷ []) dialling.Nothing []) → ⊥
 
 -- ---- the calls of turns
 

@@ -1,27 +1,29 @@
 -- Interactive logons that were written down by hand, and the sessions that a controller has behind them: of which what
 -- is claimed of both holds, and of which it doesn't (this project's own choice).
-use Rattle.std.specs.Prelude.{ℕ, ◌≡◌, List, [], ◌∷◌, replicate, Some, None, codes}
+use Rattle.std.specs.Prelude.{ℕ, ◌≡◌, true, List, [], ◌∷◌, replicate, Some, None, codes}
 use Rattle.rc4_stream.specs.Rc4.{applied}
-use Rattle.authenticators.specs.SecureChannels.{key_of_channel}
+use Rattle.authenticators.specs.SecureChannels.{SecureChannelState, key_of_channel}
 use Rattle.authenticators.specs.Sequences.{authenticator_of}
+use Rattle.outside.specs.declared.action.Judged.{Judged}
 use Rattle.outside.specs.declared.action.Judged.TheVariants as judged
 use Rattle.account_table.specs.AccountTable.{AccountTable}
-use Rattle.logon_stubs.specs.Status.{insufficient_resources, no_such_logon_session, no_trust_sam_account, wrong_password}
+use Rattle.logon_stubs.specs.Status.{insufficient_resources, no_logon_servers, no_such_logon_session, no_trust_sam_account, wrong_password}
 use Rattle.interactive_logon.specs.declared.calls.InteractiveCall.{InteractiveCall}
 use Rattle.interactive_logon.specs.declared.calls.InteractiveInfo.{InteractiveInfo}
 use Rattle.interactive_logon.specs.declared.sessions.Session.{Session}
 use Rattle.interactive_logon.specs.Sessions.{session_limit, session_of}
-use Rattle.controller_calls.specs.declared.calls.JudgedCall.TheVariants.{Interactive, Logoff, Set}
+use Rattle.controller_calls.specs.declared.calls.JudgedCall.TheVariants.{Interactive, Logoff, Network, Set}
 use Rattle.domain_controller.specs.State.{State as ControllerState}
 use Rattle.domain_controller.specs.declared.state.Running.{Running as ControllerRunning}
 use Rattle.step_notes.specs.Records.{Judging, blank}
 use Rattle.world_moves.specs.World.{World}
+use Rattle.world_moves.specs.declared.plan.Plan.{Plan}
 use Rattle.domain_world.specs.Claims.{info_asked}
 use Rattle.domain_world.specs.Claims.Grants.{GrantsWhoseHashIsStored}
 use Rattle.domain_world.specs.Claims.Sessions.{ControllerRenewed, SessionsFollow, sessions_behind}
 use Rattle.domain_world.specs.Claims.Statuses.{StatusesAreTold}
 use Rattle.domain_world.specs.Past.{Past}
-use Rattle.claim_examples.specs.ClaimExamples.{judged_as, keeping_controller, message, next_call, next_logon, run_in, small_channel, small_computers, small_hash, small_table, small_world}
+use Rattle.claim_examples.specs.ClaimExamples.{judged_as, keeping_controller, message, next_call, next_logon, run_in, small_channel, small_computers, small_hash, small_plan, small_table, small_world}
 use Rattle.claim_examples.specs.CompletenessExamples.{able_table, ann_accounts}
 use Rattle.claim_examples.specs.GrantExamples.{judged_all}
 
@@ -148,9 +150,34 @@ set_call table = record ann_call {
   table = table;
 }
 
+-- CORP trusts ROAM, whose controller is asked in a run of a plan whose controllers hand logons on
+abbrev pub trusting_table : AccountTable
+trusting_table = record small_table { trusts = record { domain = codes "ROAM"; hash = small_hash; address = 1 ∷ [] } ∷ [] }
+
+abbrev pub handing_plan : Plan
+handing_plan = record small_plan { hands_on = true }
+
+abbrev pub handing_run : List Judging → Past
+handing_run calls = record { plan = handing_plan; world = small_world; book = record blank { judged = calls } }
+
+-- FILE1's channel, of that type
+abbrev pub typed_channel : ℕ → SecureChannelState
+typed_channel kind = record (small_channel []) { kind = Some kind }
+
+-- a user of ROAM logs on at FILE1, on a channel of that type
+abbrev pub roam_call : ℕ → Judged → Judging
+roam_call kind how = record next_call {
+  asked = Network (record next_logon { info = record (info_asked message) { domain = codes "ROAM" } });
+  checks = Some (typed_channel kind);
+  table = trusting_table;
+  how = Some how;
+}
+
 -- Statuses: the logoff of a session that stands was told with 0, and of one that doesn't with
 -- STATUS_NO_SUCH_LOGON_SESSION; not the other way. So was the change of a secret with 0 where the computer has an
--- account, and with STATUS_NO_TRUST_SAM_ACCOUNT where it has none. Of a call that was barred nothing is asked.
+-- account, and with STATUS_NO_TRUST_SAM_ACCOUNT where it has none. Of a call that was barred nothing is asked. A logon
+-- for a trusted domain was told as handed on, or as passed with STATUS_NO_LOGON_SERVERS, and not as granted here; not
+-- on the channel of a trust, nor where controllers don't hand on.
 pub record OfStatuses : Type 0 where
   pub meets : StatusesAreTold (judged_all (logoff_call ann_session ∷ []))
   pub none : StatusesAreTold (judged_all (judged_as (judged.Passed no_such_logon_session) (logoff_call []) ∷ []))
@@ -161,3 +188,8 @@ pub record OfStatuses : Type 0 where
   pub set_none : StatusesAreTold (judged_all (judged_as (judged.Passed no_trust_sam_account) (set_call small_table) ∷ []))
   pub fails_set : StatusesAreTold (judged_all (judged_as (judged.Passed no_trust_sam_account) (set_call (able_table ann_accounts)) ∷ [])) → ⊥
   pub fails_set_none : StatusesAreTold (judged_all (set_call small_table ∷ [])) → ⊥
+  pub handed_on : StatusesAreTold (handing_run (roam_call 2 judged.Forwarded ∷ []))
+  pub full : StatusesAreTold (handing_run (roam_call 6 (judged.Passed no_logon_servers) ∷ []))
+  pub fails_granted : StatusesAreTold (handing_run (roam_call 2 (judged.Passed 0) ∷ [])) → ⊥
+  pub fails_trust : StatusesAreTold (handing_run (roam_call 4 judged.Forwarded ∷ [])) → ⊥
+  pub fails_alone : StatusesAreTold (judged_all (roam_call 2 judged.Forwarded ∷ [])) → ⊥

@@ -6,6 +6,7 @@ ghost use Rattle.claim_examples.specs.TellApart.{ClaimsTellApart};
 ghost use Rattle.claim_examples.specs.ClearRuns.{FirstLogonsAreClear};
 ghost use Rattle.claim_examples.specs.ClearSuccess.{AnnCanSucceed};
 ghost use Rattle.claim_examples.specs.GrantExamples.{GrantsTellApart};
+ghost use Rattle.claim_examples.specs.KindExamples.{OfAskers, OfCallsOpened, OfHops, OfKinds, OfKindsAsked};
 ghost use Rattle.claim_examples.specs.LetInExamples.{OfLettingIn, OfNames};
 ghost use Rattle.claim_examples.specs.NearMisses.{NearMissesTellApart};
 ghost use Rattle.claim_examples.specs.NeverApartExamples.{OfBeginnings, OfKeeping, OfNeverApart, OfProvedRun, OfTrying};
@@ -53,6 +54,18 @@ pub fn grants_tell_apart()
 pub fn openings_tell_apart()
     ensures order { OfOpenings }
     ensures replies { OfOpenedReplies }
+{}
+
+/// What is claimed of the types of channels is met by small runs, and not by others, each of which differs in one thing
+/// from one that meets it: of the type that an opening named, of who asks and who asked, of how far a call goes, and of
+/// what a call follows.
+#[tactic(auto, using(crate::proofs::KindExampleLaws::of_kinds, crate::proofs::KindExampleLaws::of_askers, crate::proofs::KindExampleLaws::of_kinds_asked, crate::proofs::KindExampleLaws::of_hops, crate::proofs::KindExampleLaws::of_calls_opened))]
+pub fn kinds_tell_apart()
+    ensures kinds { OfKinds }
+    ensures askers { OfAskers }
+    ensures asked { OfKindsAsked }
+    ensures hops { OfHops }
+    ensures called { OfCallsOpened }
 {}
 
 /// What is claimed of requests is met by small runs, and not by others, each of which differs from one that meets it in

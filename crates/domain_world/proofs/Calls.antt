@@ -1,19 +1,23 @@
 -- The calls that members make: what is asked, which way it goes, that it is whole, and that calls stay apart.
 pub mod AnsweredCallLaws
+pub mod AskerKindLaws
 pub mod ByRequesterLaws
 pub mod CallComesLaws
 pub mod CallFrameLaws
 pub mod CallHoldsLaws
 pub mod CallMarkLaws
+pub mod CallMarkRunLaws
 pub mod CallStepLaws
 pub mod CallWholeLaws
 pub mod CalledRunLaws
 pub mod CalledUnitLaws
+pub mod HaveCallRunLaws
 pub mod LooserLaws
 pub mod MarkWayLaws
 pub mod NamedLinkLaws
 pub mod OutStepLaws
 pub mod ReadyLaws
 pub mod StepApartLaws
+pub mod TurnCalledLaws
 pub mod WholeNotedLaws
 pub mod WholeOutLaws

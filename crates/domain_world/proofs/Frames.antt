@@ -6,11 +6,13 @@ pub mod AnyStepLaws
 pub mod BagFrameLaws
 pub mod BagStepLaws
 pub mod BookFrameLaws
+pub mod ByKindLaws
 pub mod ClientFrameLaws
 pub mod ControllerFrameLaws
 pub mod EndFrameLaws
 pub mod EndNoteLaws
 pub mod EventLaws
+pub mod EveryMarkLaws
 pub mod EveryStepLaws
 pub mod FrameLaws
 pub mod GivenLaws

@@ -14,7 +14,9 @@ use Rattle.domain_world.specs.Unforwarded.{IsProvedAlone}
 use Rattle.domain_world.proofs.Accepting.AnsweredRunLaws.{short_responses}
 use Rattle.domain_world.proofs.Accepting.Heard.MarkWholeLaws.{marked_whole}
 use Rattle.domain_world.proofs.Accepting.LetInLaws.{lets_in_who_asked}
-use Rattle.domain_world.proofs.Accepting.MarkRunLaws.{answers_have_calls, calls_marked, openings_marked, replies_marked}
+use Rattle.domain_world.proofs.Accepting.MarkRunLaws.{openings_marked, replies_marked}
+use Rattle.domain_world.proofs.Calls.CallMarkRunLaws.{calls_marked}
+use Rattle.domain_world.proofs.Calls.HaveCallRunLaws.{answers_have_calls}
 use Rattle.domain_world.proofs.Messages.ClientKeptLaws.{clients_written}
 use Rattle.domain_world.proofs.Messages.ClientMadeLaws.{messages_of_clients}
 use Rattle.domain_world.proofs.Messages.MessageMadeLaws.{messages_made}
@@ -30,21 +32,24 @@ use Rattle.domain_world.proofs.Clear.ClearWalkLaws.{none_clashes}
 use Rattle.domain_world.proofs.Completeness.SuccessLaws.{each_succeeds}
 use Rattle.domain_world.proofs.Moves.MarkedLaws.{each_marked}
 use Rattle.domain_world.proofs.Moves.DrawnRunLaws.{draws_are_blocks, draws_differ}
-use Rattle.domain_world.proofs.Judgements.AloneLaws.{tells_of_calls}
-use Rattle.domain_world.proofs.Judgements.GrantLaws.{each_status}
+use Rattle.domain_world.proofs.Judgements.AnswerCountLaws.{tells_of_forwards}
+use Rattle.domain_world.proofs.Judgements.Openings.KindRunLaws.{kinds_follow}
+use Rattle.domain_world.proofs.Judgements.Openings.OpeningAskedLaws.{openings_asked}
 use Rattle.domain_world.proofs.Judgements.Openings.OpeningAnswerLaws.{replies_to_openings}
-use Rattle.domain_world.proofs.Judgements.Openings.OpeningReplyLaws.{replies_answer_openings}
+use Rattle.domain_world.proofs.Judgements.Openings.EveryOpeningLaws.{replies_answer_openings}
 use Rattle.domain_world.proofs.Judgements.Openings.OpeningRunLaws.{openings_in_order}
 use Rattle.domain_world.proofs.Judgements.ReplayLaws.{replays_by_sum}
-use Rattle.domain_world.proofs.Judgements.ReplyLaws.{replies_carry}
 use Rattle.domain_world.proofs.Judgements.SessionLaws.{grants_by_hash, sessions_follow}
+use Rattle.domain_world.proofs.Judgements.StatusLaws.{statuses_told}
 use Rattle.domain_world.proofs.Judgements.TableLaws.{tables_follow}
 use Rattle.domain_world.proofs.Judgements.TrustGrantLaws.{grants_who_may}
+use Rattle.domain_world.proofs.Judgements.TrustReplyLaws.{replies_of_calls}
 use Rattle.domain_world.proofs.Judgements.TrustToldLaws.{passes_the_next}
 use Rattle.domain_world.proofs.Judgements.UnclashedLaws.{passes_unclashed}
 use Rattle.domain_world.proofs.Judgements.UserHashLaws.{users_stay}
 use Rattle.domain_world.proofs.Messages.CallMessageLaws.{members_ask_for_messages, sends_ask_for_messages}
 use Rattle.domain_world.proofs.Messages.KeptAskLaws.{members_ask}
+use Rattle.domain_world.proofs.Calls.AskerKindLaws.{askers_name}
 use Rattle.domain_world.proofs.Calls.MarkWayLaws.{marks_have_their_way}
 use Rattle.domain_world.proofs.Sequences.OneTurnLaws.{one_turn}
 use Rattle.domain_world.proofs.Sequences.Own.OwnEndLaws.{turns_are_called}
@@ -56,12 +61,9 @@ use Rattle.domain_world.proofs.Unforwarded.CarryLaws.{carries_over}
 -- of a plan that hands nothing on, and in which nothing seals
 proved_alone : (plan : Plan) (moves : List Move) → IsPlainAlone plan → IsProvedAlone plan moves
 proved_alone plan moves nobody = record {
-  opened = replies_answer_openings plan moves nobody;
+  opened_kinds = openings_asked plan moves nobody;
   opened_by = λ schedule calm. replies_to_openings plan moves nobody schedule calm;
   numbers = λ schedule. schedules_number plan moves nobody schedule;
-  alone = tells_of_calls plan moves nobody;
-  statuses = each_status plan moves nobody;
-  replies = replies_carry plan moves nobody;
   answered = λ schedule calm. replies_answer plan moves nobody schedule calm;
   names = λ schedule calm. runs_heard.names plan moves nobody (units_heard plan moves nobody schedule) (draws_differ plan moves) calm;
   only = λ schedule clear. runs_heard.only plan moves nobody (units_heard plan moves nobody schedule) (draws_differ plan moves) clear;
@@ -72,14 +74,10 @@ proved_alone plan moves nobody = record {
       short_let_in (past plan moves) (messages_apart plan moves nobody.plain)
       (runs_heard.only plan moves nobody (units_heard plan moves nobody schedule) (draws_differ plan moves) clear)
       (short_responses plan moves nobody.plain (draws_differ plan moves) (draws_are_blocks plan moves));
-  one_turn = one_turn plan moves nobody;
-  own = sequences_own plan moves nobody;
   sequences = λ schedule clear. sequences_shared plan moves nobody schedule clear;
   called = λ schedule clear. turns_are_called plan moves nobody schedule clear;
   whole = marked_whole plan moves nobody;
-  have_calls = answers_have_calls plan moves nobody;
   asks_for = λ schedule. (runs_heard.heard plan moves nobody (units_heard plan moves nobody schedule) (draws_differ plan moves)).asks;
-  call_marks = calls_marked plan moves nobody;
   reply_marks = replies_marked plan moves nobody;
   opened_marks = openings_marked plan moves nobody;
   complete = each_succeeds plan moves nobody;
@@ -101,19 +99,22 @@ all_proved plan moves = record {
   responses = λ nothing. short_responses plan moves nothing (draws_differ plan moves) (draws_are_blocks plan moves);
   apart = λ nothing. messages_apart plan moves nothing;
   openings = λ nothing. openings_in_order plan moves nothing;
-  opened = λ nothing alone. (judged_alone plan moves nothing alone).opened;
+  kinds = λ nothing. kinds_follow plan moves nothing;
+  askers = λ nothing. askers_name plan moves nothing;
+  opened_kinds = λ nothing alone. (judged_alone plan moves nothing alone).opened_kinds;
+  opened = λ nothing. replies_answer_openings plan moves nothing;
   opened_by = λ nothing alone. (judged_alone plan moves nothing alone).opened_by;
   numbers = λ nothing alone. (judged_alone plan moves nothing alone).numbers;
   credentials = λ nothing. passes_the_next plan moves nothing;
-  alone = λ nothing alone. (judged_alone plan moves nothing alone).alone;
+  alone = λ nothing. tells_of_forwards plan moves nothing;
   replays = λ nothing. replays_by_sum plan moves nothing;
   unclashed = λ nothing. passes_unclashed plan moves;
   grants = λ nothing. grants_who_may plan moves nothing (users_stay plan moves nothing);
   let_on = λ nothing. grants_by_hash plan moves nothing;
-  statuses = λ nothing alone. (judged_alone plan moves nothing alone).statuses;
+  statuses = λ nothing. statuses_told plan moves nothing;
   tables = λ nothing. tables_follow plan moves nothing;
   sessions = λ nothing. sessions_follow plan moves nothing;
-  replies = λ nothing alone. (judged_alone plan moves nothing alone).replies;
+  replies = λ nothing. replies_of_calls plan moves nothing;
   answered = λ nothing alone. (judged_alone plan moves nothing alone).answered;
   kept = λ nothing. members_ask plan moves nothing;
   asked = λ nothing. members_ask_for_messages plan moves nothing;
@@ -130,16 +131,16 @@ all_proved plan moves = record {
   keys = λ nothing alone. (judged_alone plan moves nothing alone).keys;
   counts = λ nothing alone. (judged_alone plan moves nothing alone).counts;
   once = λ nothing alone. (judged_alone plan moves nothing alone).once;
-  one_turn = λ nothing alone. (judged_alone plan moves nothing alone).one_turn;
-  own = λ nothing alone. (judged_alone plan moves nothing alone).own;
+  one_turn = λ nothing. one_turn plan moves nothing;
+  own = λ nothing. sequences_own plan moves nothing;
   sequences = λ nothing alone. (judged_alone plan moves nothing alone).sequences;
   called = λ nothing alone. (judged_alone plan moves nothing alone).called;
   marked = each_marked plan moves;
   ways = λ nothing. marks_have_their_way plan moves nothing;
   whole = λ nothing alone. (judged_alone plan moves nothing alone).whole;
-  have_calls = λ nothing alone. (judged_alone plan moves nothing alone).have_calls;
+  have_calls = λ nothing. answers_have_calls plan moves nothing;
   asks_for = λ nothing alone. (judged_alone plan moves nothing alone).asks_for;
-  call_marks = λ nothing alone. (judged_alone plan moves nothing alone).call_marks;
+  call_marks = λ nothing. calls_marked plan moves nothing;
   reply_marks = λ nothing alone. (judged_alone plan moves nothing alone).reply_marks;
   opened_marks = λ nothing alone. (judged_alone plan moves nothing alone).opened_marks;
   complete = λ nothing alone. (judged_alone plan moves nothing alone).complete;

@@ -1,5 +1,6 @@
 -- What holds in every run of the calls that controllers judged.
-pub mod AloneLaws
+pub mod AnswerCountLaws
+pub mod AskedTrustLaws
 pub mod ChainLaws
 pub mod GrantLaws
 pub mod HashLaws
@@ -14,9 +15,11 @@ pub mod SeedStepLaws
 pub mod SessionLaws
 pub mod SessionRunLaws
 pub mod SessionStepLaws
+pub mod StatusLaws
 pub mod TableLaws
 pub mod ToldLaws
 pub mod TrustGrantLaws
+pub mod TrustReplyLaws
 pub mod TrustToldLaws
 pub mod UnclashedLaws
 pub mod UserHashLaws

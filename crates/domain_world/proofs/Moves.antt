@@ -1,6 +1,8 @@
 -- What holds through the moves of every run of links, units, marks, draws, plans and requesters.
+pub mod AcceptedLinkLaws
 pub mod ComingLaws
 pub mod DrawnRunLaws
+pub mod EvenLaws
 pub mod FrontLaws
 pub mod LeftLaws
 pub mod MarkNumberLaws
@@ -13,4 +15,6 @@ pub mod OpenMadeLaws
 pub mod PlacedLaws
 pub mod PlainFormLaws
 pub mod RequesterLaws
+pub mod TrustAskerLaws
+pub mod TrustFrontLaws
 pub mod TrustNoBytesLaws

@@ -13,4 +13,6 @@ pub mod SharedLaws
 pub mod SharedRunLaws
 pub mod StampLaws
 pub mod SumLaws
+pub mod TrustDialLaws
+pub mod TrustTurnLaws
 pub mod WaitStepLaws

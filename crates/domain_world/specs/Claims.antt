@@ -8,6 +8,7 @@
 -- is the channel's next one.
 pub mod AcceptedOpenings
 pub mod AskedFor
+pub mod ChannelKinds
 pub mod Completeness
 pub mod Counts
 pub mod Grants
@@ -29,18 +30,22 @@ pub mod Sessions
 pub mod SharedSequences
 pub mod Statuses
 pub mod Tables
+pub mod TrustReplies
 pub mod WrittenDown
-use Rattle.std.specs.Prelude.{ℕ, ◌≡◌, ◌≢◌, ◌+◌, ◌%◌, ◌^◌, ◌==◌, ◌&&◌, ◌↔◌, Bool, true, false, List, [], ◌∷◌, ◌++◌, length, replicate, count_by, filter, find, Option, Some, None, slice_get, AllPairs}
+use Rattle.std.specs.Prelude.{ℕ, ◌≡◌, ◌≢◌, ◌≤◌, ◌+◌, ◌%◌, ◌^◌, ◌==◌, ◌&&◌, ◌↔◌, Bool, true, false, List, [], ◌∷◌, ◌++◌, length, replicate, count_by, filter, find, Option, Some, None, slice_get, AllPairs}
 use Rattle.std.specs.List.{AllByRecursion}
 use Rattle.rc4_stream.specs.Rc4.{applied}
 use Rattle.authenticators.specs.Channels.{ChannelIdentity, channel_key}
-use Rattle.outside.specs.declared.action.Judged.TheVariants as judged
+use Rattle.outside.specs.declared.action.Judged.{Judged}
 use Rattle.outside.specs.declared.action.Outcome.{Outcome}
 use Rattle.outside.specs.declared.action.Outcome.TheVariants as outcome
 use Rattle.ntlm_responses.specs.Responses.{challenge_for_of}
 use Rattle.logon_stubs.specs.declared.info.NetworkInfo.{NetworkInfo}
 use Rattle.sam_logon.specs.MayLogOn.{MayLogOn, ResponseVerifies}
 use Rattle.domain_controller.specs.Laws.{judges_call}
+use Rattle.domain_controller.specs.State.{State as ControllerState}
+use Rattle.domain_controller.specs.TrustLaws.{answers_judged, is_forwarded}
+use Rattle.domain_controller.specs.TrustOrder.{count_if}
 use Rattle.member_server.specs.Messages.{info_of}
 use Rattle.member_server.specs.declared.plan.MemberPlan.{MemberPlan}
 use Rattle.wire_base.specs.Lists.{OneOf}
@@ -257,10 +262,35 @@ AreRightlyTold told judgings = AreTheirJudgements (judgements_of_calls told) jud
 abbrev pub PassesTheNextCredential : Past → Type 0
 PassesTheNextCredential past = AreRightlyTold past.book.judgements past.book.judged
 
--- Controllers told of nothing but judgements of calls that they heard, and handed no call on.
-abbrev pub TellsOfCallsAlone : Past → Type 0
-TellsOfCallsAlone past =
-    AllByRecursion (λ (one : JudgementTold). (judges_call one.how ≡ true) × (one.how ≢ judged.Forwarded)) past.book.judgements
+-- ---- calls that are handed on
+
+-- what a controller told, by how much each of it counts
+abbrev pub counts_by : (is_its : Bool) → ℕ → ℕ
+counts_by false count = 0
+counts_by true count = count
+
+abbrev pub told_count : (Judged → ℕ) → ℕ → List JudgementTold → ℕ
+told_count counts controller [] = 0
+told_count counts controller (one ∷ told) =
+    counts_by (one.controller == controller) (counts one.how) + told_count counts controller told
+
+-- how many calls it handed on
+abbrev pub handed_count : Judged → ℕ
+handed_count how = count_if (is_forwarded how)
+
+-- how many of them wait for their answers there
+abbrev pub waiting_count : Option ControllerState → ℕ
+waiting_count None = 0
+waiting_count (Some c) = length c.trusting.queues.forwarded
+
+-- What controllers tell besides is how calls came out that they handed on (`judges_call`): each once at most, while it
+-- waits, and of no call that it didn't hand on. At each controller as many were handed on at least as came out or wait
+-- yet. (One that is made anew forgets those that wait.)
+abbrev pub TellsOfForwards : Past → Type 0
+TellsOfForwards past =
+    (controller : ℕ) →
+    told_count answers_judged controller past.book.judgements + waiting_count (slice_get past.world.state.ends.controllers controller)
+    ≤ told_count handed_count controller past.book.judgements
 
 -- ---- further claims
 

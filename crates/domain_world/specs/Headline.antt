@@ -10,7 +10,8 @@ use Rattle.domain_world.specs.Accepting.Carried.{MarkedUnitsAreWhole}
 use Rattle.domain_world.specs.Accepting.Answered.{CallsAskForMessages, MarksHaveTheirWay, MessagesAreApart, PassesAreUnclashed}
 use Rattle.domain_world.specs.Accepting.KeysMade.{MessagesAreMade, MessagesAreTakenAsSent}
 use Rattle.domain_world.specs.Accepting.Sequences.{RepliesAnswerCalls, TurnsAreCalled}
-use Rattle.domain_world.specs.Claims.{AcceptsAllGranted, AcceptsOnlyGranted, ChallengesServeOnce, IsClear, KeysAgree, PassesTheNextCredential, ReplaysBySum, ShortResponsesLetInOnce, ShortResponsesServeOnce, TellsOfCallsAlone}
+use Rattle.domain_world.specs.Claims.{AcceptsAllGranted, AcceptsOnlyGranted, ChallengesServeOnce, IsClear, KeysAgree, PassesTheNextCredential, ReplaysBySum, ShortResponsesLetInOnce, ShortResponsesServeOnce, TellsOfForwards}
+use Rattle.domain_world.specs.Claims.ChannelKinds.{AskersNameTheirKind, KindsFollowOpenings, OpeningsNameTheirKind}
 use Rattle.domain_world.specs.Claims.AskedFor.{MembersAskForKept, MembersAskForMessages, SendsAskForMessages}
 use Rattle.domain_world.specs.Claims.Completeness.{EachSucceeds}
 use Rattle.domain_world.specs.Claims.Counts.{EachCallRaisesOnce}
@@ -23,12 +24,12 @@ use Rattle.domain_world.specs.Claims.OneByOne.{NoneClashes}
 use Rattle.domain_world.specs.Claims.OpeningReplies.{OpeningsAreMarked, RepliesAnswerOpenings, RepliesAreToOpenings}
 use Rattle.domain_world.specs.Claims.Openings.{OpeningsAreInOrder}
 use Rattle.domain_world.specs.Claims.OwnChallenges.{MessagesHaveOwnChallenges}
-use Rattle.domain_world.specs.Claims.Replies.{RepliesCarryTheirJudgement}
 use Rattle.domain_world.specs.Claims.RequestNumbers.{RequestsHaveNumbers}
 use Rattle.domain_world.specs.Claims.Sessions.{SessionsFollow, renewals}
 use Rattle.domain_world.specs.Claims.SharedSequences.{OneTurnIsOut, SequencesAreOwn, SequencesAreShared}
 use Rattle.domain_world.specs.Claims.Statuses.{StatusesAreTold}
 use Rattle.domain_world.specs.Claims.Tables.{TablesFollowVerdicts}
+use Rattle.domain_world.specs.Claims.TrustReplies.{RepliesAreOfTheirCalls}
 use Rattle.domain_world.specs.Claims.WrittenDown.{ClientsAreWrittenDown, MembersAreWrittenDown, MessagesAreOfTheirClients}
 use Rattle.domain_world.specs.Past.{past}
 
@@ -37,8 +38,8 @@ use Rattle.domain_world.specs.Past.{past}
 -- member and its controller are never apart, is of schedules that are clear: in them no credential passed on a unit
 -- made for another channel or for none, and no seed came round. Of the others `unclashed`, and a part of `opened`, ask
 -- that no credential clashed. `names`, `answered` and `opened_by` ask for a schedule besides, and `as_made`, `numbers`,
--- `whole`, `have_calls`, `asks_for`, `call_marks`, `reply_marks` and `opened_marks` for a schedule alone. `complete`
--- and `one_by_one` ask for logons one at a time.
+-- `whole`, `asks_for`, `reply_marks` and `opened_marks` for a schedule alone. `complete` and `one_by_one` ask for
+-- logons one at a time.
 --
 -- `NothingSeals` is a premise of each field but `marked`: no controller of the plan can seal, and no member's channel
 -- does. Of other runs nothing is claimed yet, since what is written down of an end is read off the machine of one that
@@ -47,8 +48,8 @@ use Rattle.domain_world.specs.Past.{past}
 -- A field with the premise `IsJudgedAlone` is of runs in which each call is judged by the controller that hears it: the
 -- plan's controllers aren't to hand logons on, or its tables trust no domain, or no call of the run comes for a trusted
 -- domain and challenges are left at its end. Of other runs it isn't claimed yet. What is written down of a controller
--- is read off its own step, whether it hands logons on or not (`TrustNotes`), so that what it passes, grants and keeps
--- is claimed of every run in which nothing seals.
+-- is read off its own step, whether it hands logons on or not (`TrustNotes`), so that what it passes, grants, keeps and
+-- tells, and which openings it accepts and by which replies, is claimed of every run in which nothing seals.
 pub record Proved (plan : Plan) (moves : List Move) : Type 0 where
   -- challenges, and the messages that are made for them
   pub challenges : NothingSeals plan → ChallengesServeOnce (past plan moves)
@@ -57,22 +58,26 @@ pub record Proved (plan : Plan) (moves : List Move) : Type 0 where
   pub apart : NothingSeals plan → MessagesAreApart (past plan moves)
   -- which channels controllers accept and keep, and by which replies
   pub openings : NothingSeals plan → OpeningsAreInOrder (past plan moves)
-  pub opened : NothingSeals plan → IsJudgedAlone plan moves → RepliesAnswerOpenings (past plan moves)
+  -- of which types they are, and which calls are handed on by that; and which types members and controllers open
+  pub kinds : NothingSeals plan → KindsFollowOpenings (past plan moves)
+  pub askers : NothingSeals plan → AskersNameTheirKind (past plan moves)
+  pub opened_kinds : NothingSeals plan → IsJudgedAlone plan moves → IsSchedule plan moves → OpeningsNameTheirKind (past plan moves)
+  pub opened : NothingSeals plan → RepliesAnswerOpenings (past plan moves)
   -- each reply that accepts an opening answers one of its channel, with its number, accepted at the step that sent it
   pub opened_by : NothingSeals plan → IsJudgedAlone plan moves → IsSchedule plan moves → (past plan moves).book.clash ≡ false → RepliesAreToOpenings (past plan moves)
   -- openings and calls on a channel have different numbers
   pub numbers : NothingSeals plan → IsJudgedAlone plan moves → IsSchedule plan moves → RequestsHaveNumbers (past plan moves)
   -- what controllers judge, grant and answer
   pub credentials : NothingSeals plan → PassesTheNextCredential (past plan moves)
-  pub alone : NothingSeals plan → IsJudgedAlone plan moves → TellsOfCallsAlone (past plan moves)
+  pub alone : NothingSeals plan → TellsOfForwards (past plan moves)
   pub replays : NothingSeals plan → ReplaysBySum (past plan moves)
   pub unclashed : NothingSeals plan → PassesAreUnclashed (past plan moves)
   pub grants : NothingSeals plan → GrantsWhoMayLogOn (past plan moves)
   pub let_on : NothingSeals plan → GrantsWhoseHashIsStored (past plan moves)
-  pub statuses : NothingSeals plan → IsJudgedAlone plan moves → StatusesAreTold (past plan moves)
+  pub statuses : NothingSeals plan → StatusesAreTold (past plan moves)
   pub tables : NothingSeals plan → TablesFollowVerdicts (past plan moves)
   pub sessions : NothingSeals plan → SessionsFollow (past plan moves) (renewals moves (first_world plan) [])
-  pub replies : NothingSeals plan → IsJudgedAlone plan moves → RepliesCarryTheirJudgement (past plan moves)
+  pub replies : NothingSeals plan → RepliesAreOfTheirCalls (past plan moves)
   pub answered : NothingSeals plan → IsJudgedAlone plan moves → IsSchedule plan moves → (past plan moves).book.clash ≡ false → RepliesAnswerCalls (past plan moves)
   -- what members ask, and whom they let in
   pub kept : NothingSeals plan → MembersAskForKept (past plan moves)
@@ -95,10 +100,11 @@ pub record Proved (plan : Plan) (moves : List Move) : Type 0 where
   pub keys : NothingSeals plan → IsJudgedAlone plan moves → IsSchedule plan moves → IsClear (past plan moves).book → KeysAgree (past plan moves)
   pub counts : NothingSeals plan → IsJudgedAlone plan moves → IsSchedule plan moves → IsClear (past plan moves).book → EachCallRaisesOnce (past plan moves)
   pub once : NothingSeals plan → IsJudgedAlone plan moves → IsSchedule plan moves → IsClear (past plan moves).book → ShortResponsesLetInOnce (past plan moves)
-  -- at most one turn is out at a member, and its channel's seed is moved by its turns; the ends of a channel share its
-  -- sequence, and the calls on it are those of its turns, of which each that ended passed
-  pub one_turn : NothingSeals plan → IsJudgedAlone plan moves → OneTurnIsOut (past plan moves)
-  pub own : NothingSeals plan → IsJudgedAlone plan moves → SequencesAreOwn (past plan moves)
+  -- at most one turn is out at a member, and at a controller over all its trusts; the seed of a member's channel is
+  -- moved by its turns. The ends of a channel share its sequence, and the calls on it are those of its turns, of which
+  -- each that ended passed
+  pub one_turn : NothingSeals plan → OneTurnIsOut (past plan moves)
+  pub own : NothingSeals plan → SequencesAreOwn (past plan moves)
   pub sequences : NothingSeals plan → IsJudgedAlone plan moves → IsSchedule plan moves → IsClear (past plan moves).book → SequencesAreShared (past plan moves)
   pub called : NothingSeals plan → IsJudgedAlone plan moves → IsSchedule plan moves → IsClear (past plan moves).book → TurnsAreCalled (past plan moves)
   -- the units of the bag, and which way they go
@@ -108,11 +114,11 @@ pub record Proved (plan : Plan) (moves : List Move) : Type 0 where
   pub whole : NothingSeals plan → IsJudgedAlone plan moves → IsSchedule plan moves → MarkedUnitsAreWhole (past plan moves)
   -- A message whose answer was taken has a call. What was judged in the unit of a message's call is a network logon
   -- that asks what the message asks.
-  pub have_calls : NothingSeals plan → IsJudgedAlone plan moves → IsSchedule plan moves → AnswersHaveCalls (past plan moves)
+  pub have_calls : NothingSeals plan → AnswersHaveCalls (past plan moves)
   pub asks_for : NothingSeals plan → IsJudgedAlone plan moves → IsSchedule plan moves → CallsAskForMessages (past plan moves)
   -- The call of each message is marked as one. The reply to a call that passed, or to an opening that was accepted, is
   -- marked as that.
-  pub call_marks : NothingSeals plan → IsJudgedAlone plan moves → IsSchedule plan moves → CallsAreMarked (past plan moves)
+  pub call_marks : NothingSeals plan → CallsAreMarked (past plan moves)
   pub reply_marks : NothingSeals plan → IsJudgedAlone plan moves → IsSchedule plan moves → RepliesAreMarked (past plan moves)
   pub opened_marks : NothingSeals plan → IsJudgedAlone plan moves → IsSchedule plan moves → OpeningsAreMarked (past plan moves)
   -- Logons that come one at a time succeed where they can, at members that have their own computers. Whatever they come

@@ -9,18 +9,17 @@ use Rattle.world_moves.specs.Unforwarded.{IsUnforwarded, alone_plan}
 use Rattle.domain_world.specs.Accepting.Answered.{CallsAskForMessages}
 use Rattle.domain_world.specs.Accepting.Carried.{MarkedUnitsAreWhole}
 use Rattle.domain_world.specs.Accepting.Sequences.{RepliesAnswerCalls, TurnsAreCalled}
+use Rattle.domain_world.specs.Claims.ChannelKinds.{OpeningsNameTheirKind}
 use Rattle.domain_world.specs.Claims.Completeness.{EachSucceeds}
 use Rattle.domain_world.specs.Claims.Counts.{EachCallRaisesOnce}
-use Rattle.domain_world.specs.Claims.MarkedUnits.{AnswersHaveCalls, CallsAreMarked, RepliesAreMarked}
+use Rattle.domain_world.specs.Claims.MarkedUnits.{RepliesAreMarked}
 use Rattle.domain_world.specs.Claims.Names.{LetsInByName}
 use Rattle.domain_world.specs.Claims.NeverApart.{MembersAreNeverApart}
 use Rattle.domain_world.specs.Claims.OneByOne.{NoneClashes}
-use Rattle.domain_world.specs.Claims.OpeningReplies.{OpeningsAreMarked, RepliesAnswerOpenings, RepliesAreToOpenings}
-use Rattle.domain_world.specs.Claims.Replies.{RepliesCarryTheirJudgement}
+use Rattle.domain_world.specs.Claims.OpeningReplies.{OpeningsAreMarked, RepliesAreToOpenings}
 use Rattle.domain_world.specs.Claims.RequestNumbers.{RequestsHaveNumbers}
-use Rattle.domain_world.specs.Claims.SharedSequences.{OneTurnIsOut, SequencesAreOwn, SequencesAreShared}
-use Rattle.domain_world.specs.Claims.Statuses.{StatusesAreTold}
-use Rattle.domain_world.specs.Claims.{AcceptsAllGranted, AcceptsOnlyGranted, IsClear, KeysAgree, ShortResponsesLetInOnce, TellsOfCallsAlone}
+use Rattle.domain_world.specs.Claims.SharedSequences.{SequencesAreShared}
+use Rattle.domain_world.specs.Claims.{AcceptsAllGranted, AcceptsOnlyGranted, IsClear, KeysAgree, ShortResponsesLetInOnce}
 use Rattle.domain_world.specs.Past.{past}
 
 -- What is written down of a run in which nothing seals and no call comes for a trusted domain is what is written down
@@ -32,12 +31,9 @@ BooksAlone = (plan : Plan) (moves : List Move) → NothingSeals plan → IsUnfor
 -- What is proved of runs in which nothing seals, and each call is judged by the controller that hears it. The rest of
 -- what is proved of runs in which nothing seals is of each of them (`Proved`).
 pub record IsProvedAlone (plan : Plan) (moves : List Move) : Type 0 where
-  pub opened : RepliesAnswerOpenings (past plan moves)
+  pub opened_kinds : IsSchedule plan moves → OpeningsNameTheirKind (past plan moves)
   pub opened_by : IsSchedule plan moves → (past plan moves).book.clash ≡ false → RepliesAreToOpenings (past plan moves)
   pub numbers : IsSchedule plan moves → RequestsHaveNumbers (past plan moves)
-  pub alone : TellsOfCallsAlone (past plan moves)
-  pub statuses : StatusesAreTold (past plan moves)
-  pub replies : RepliesCarryTheirJudgement (past plan moves)
   pub answered : IsSchedule plan moves → (past plan moves).book.clash ≡ false → RepliesAnswerCalls (past plan moves)
   pub names : IsSchedule plan moves → (past plan moves).book.clash ≡ false → LetsInByName (past plan moves)
   pub only : IsSchedule plan moves → IsClear (past plan moves).book → AcceptsOnlyGranted (past plan moves)
@@ -45,14 +41,10 @@ pub record IsProvedAlone (plan : Plan) (moves : List Move) : Type 0 where
   pub keys : IsSchedule plan moves → IsClear (past plan moves).book → KeysAgree (past plan moves)
   pub counts : IsSchedule plan moves → IsClear (past plan moves).book → EachCallRaisesOnce (past plan moves)
   pub once : IsSchedule plan moves → IsClear (past plan moves).book → ShortResponsesLetInOnce (past plan moves)
-  pub one_turn : OneTurnIsOut (past plan moves)
-  pub own : SequencesAreOwn (past plan moves)
   pub sequences : IsSchedule plan moves → IsClear (past plan moves).book → SequencesAreShared (past plan moves)
   pub called : IsSchedule plan moves → IsClear (past plan moves).book → TurnsAreCalled (past plan moves)
   pub whole : IsSchedule plan moves → MarkedUnitsAreWhole (past plan moves)
-  pub have_calls : IsSchedule plan moves → AnswersHaveCalls (past plan moves)
   pub asks_for : IsSchedule plan moves → CallsAskForMessages (past plan moves)
-  pub call_marks : IsSchedule plan moves → CallsAreMarked (past plan moves)
   pub reply_marks : IsSchedule plan moves → RepliesAreMarked (past plan moves)
   pub opened_marks : IsSchedule plan moves → OpeningsAreMarked (past plan moves)
   pub complete : EachSucceeds (past plan moves) moves

@@ -6,6 +6,7 @@ ghost use Rattle.world_moves.specs.declared.plan.Plan.{Plan};
 ghost use Rattle.world_moves.specs.Alone.{HandsNothingOn};
 ghost use Rattle.world_moves.specs.Plain.{NothingSeals};
 ghost use Rattle.domain_world.specs.Claims.AcceptedOpenings.{KeptAreLast, MembersOpenInOrder, OpeningsAreMade};
+ghost use Rattle.domain_world.specs.Claims.ChannelKinds.{KindsDecide};
 ghost use Rattle.domain_world.specs.Claims.Hashes.{HashesFollowSets};
 ghost use Rattle.world_moves.specs.Unforwarded.{IsJudgedAlone, RunsAlone};
 ghost use Rattle.domain_world.specs.Claims.LeftOut.{MembersLeaveNothingOut};
@@ -73,6 +74,15 @@ pub fn happenings_leave_no_two_apart()
 pub fn kept_channels_are_last()
     ensures { (plan : Plan) (moves : List Move) → NothingSeals plan →
         KeptAreLast (past plan moves) }
+{}
+
+/// Where channels have the types that their openings named, and each opening names the type of who sent it (MS-NRPC
+/// 2.2.1.3.13), each channel that a controller keeps has the type of who opened it. A call that came from another
+/// controller is then handed on no further, without a clash, where what passes was made as a call, on a channel that
+/// its end had opened.
+#[tactic(auto, using(crate::proofs::Judgements::Openings::KindDecideLaws::kinds_decide))]
+pub fn kinds_decide_who_is_asked()
+    ensures { KindsDecide }
 {}
 
 /// In every schedule without a clash each opening that was accepted, and came in a unit of the bag, was made in one,

@@ -16,10 +16,11 @@ pub use answering::{
 };
 pub use claims::{
     claims_hold_of_runs, happenings_leave_no_two_apart, hashes_follow_sets, kept_channels_are_last,
-    links_reach_the_named, members_keep_what_they_hold, members_leave_nothing_out,
-    members_open_in_order, members_step_in_order, members_try_their_secrets, openings_are_made,
-    what_asks_nobody_is_judged_alone, what_is_not_handed_on_is_written_alike,
-    what_is_not_handed_on_runs_alone, what_is_proved_alone_is_carried_over,
+    kinds_decide_who_is_asked, links_reach_the_named, members_keep_what_they_hold,
+    members_leave_nothing_out, members_open_in_order, members_step_in_order,
+    members_try_their_secrets, openings_are_made, what_asks_nobody_is_judged_alone,
+    what_is_not_handed_on_is_written_alike, what_is_not_handed_on_runs_alone,
+    what_is_proved_alone_is_carried_over,
 };
 pub use driving::{drive, drive_from};
 pub use world_moves::{

@@ -14,4 +14,5 @@ pub mod ReplySendLaws
 pub mod ReplyStepLaws
 pub mod TrustNoteLaws
 pub mod TrustNotedLaws
+pub mod TrustReplyLaws
 pub mod TrustedStepLaws

@@ -220,7 +220,8 @@ pub record OpeningsAreNamedAlike : Type 0 where
       × (taking_note (Some (take_of s unit)) controller s ≡ request_note (Opening (half_channel controller s client server) s.next_call) None)
   pub opens : (s : Requester) (client server : List ℕ) (w : Where) (line : Line) (before : Desk) (after : Option Desk) →
       Expects before s client server →
-      call_answer (served_call (auth_call s.caller client server)) line w before after ≡ opening (Some (half_channel w.controller s client server)) w line.call
+      call_answer (served_call (auth_call s.caller client server)) line w before after
+      ≡ opening (Some (half_channel w.controller s client server)) w line.call s.caller.kind
   pub keeps : (controller : ℕ) (s : Requester) (client server : List ℕ) (line : Line) (talk : ControllerTalk) (name : List ℕ) (now : ℕ)
       (before after : Desk) (left : List (List ℕ)) → Expects before s client server →
       work_after (by_call (served_call (auth_call s.caller client server)) line talk name now before left) ≡ Some after →

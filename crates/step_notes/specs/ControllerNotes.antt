@@ -153,20 +153,21 @@ abbrev pub opened_mark : Option ℕ → ChannelIdentity → ℕ → Mark
 opened_mark None channel number = Plain
 opened_mark (Some unit) channel number = Opened channel number unit
 
--- the channel that a NetrServerAuthenticate2 opens, by the call's number
-abbrev pub accepting : Where → ℕ → ChannelIdentity → ChannelAccepted
-accepting w number channel = record { at = w.at; source = w.source; number = number; channel = channel; reply = None }
+-- the channel that a NetrServerAuthenticate2 opens, by the call's number and the type of channel that it names
+abbrev pub accepting : Where → (number kind : ℕ) → ChannelIdentity → ChannelAccepted
+accepting w number kind channel =
+    record { at = w.at; source = w.source; number = number; channel = channel; kind = kind; reply = None }
 
--- a NetrServerAuthenticate2, by the channel that it opens, and its number
-abbrev pub opening : Option ChannelIdentity → Where → ℕ → Answered
-opening None w number = plain
-opening (Some channel) w number =
+-- a NetrServerAuthenticate2, by the channel that it opens, its number, and the type that it names
+abbrev pub opening : Option ChannelIdentity → Where → (number kind : ℕ) → Answered
+opening None w number kind = plain
+opening (Some channel) w number kind =
     record {
       sends = true;
       mark = opened_mark (unit_in w.source) channel number;
       checked = Some channel;
       judging = None;
-      accepted = Some (accepting w number channel);
+      accepted = Some (accepting w number kind channel);
     }
 
 abbrev pub judging_of : Where → Line → JudgedCall → Desk → Option Desk → Judging
@@ -190,7 +191,7 @@ judged_answer j = judging_by (has_passed j.how) j
 
 abbrev pub call_answer : ControllerCall → Line → Where → Desk → Option Desk → Answered
 call_answer (call.Challenge c) line w before after = plain
-call_answer (call.Authenticate c) line w before after = opening (opened_by w.controller c before) w line.call
+call_answer (call.Authenticate c) line w before after = opening (opened_by w.controller c before) w line.call c.channel
 call_answer (call.Judged c) line w before after = judged_answer (judging_of w line c before after)
 
 abbrev pub heard_answer : Heard → Where → Desk → Option Desk → Answered

@@ -15,3 +15,4 @@ pub mod ReplySends
 pub mod Served
 pub mod TakenWhole
 pub mod TrustNotes
+pub mod TrustReplies

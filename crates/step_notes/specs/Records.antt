@@ -86,8 +86,9 @@ pub record ChannelAccepted : Type 0 where
   -- where the call's bytes came from, and its number
   pub source : Source
   pub number : ℕ
-  -- the channel that it opened, which names the controller
+  -- the channel that it opened, which names the controller, and the type of the channel (2.2.1.3.13) that it named
   pub channel : ChannelIdentity
+  pub kind : ℕ
   -- the unit of the bag that carries the reply, where it went to an end of this world
   pub reply : Option ℕ
 

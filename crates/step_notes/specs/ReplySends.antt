@@ -85,17 +85,24 @@ CarriesReply (Calling channel number timestamp) j bytes = ⊥
 CarriesReply (ReplyTo channel number request) None bytes = ⊥
 CarriesReply (ReplyTo channel number request) (Some j) bytes = IsReplyOfCall channel number request j bytes
 
--- the next of what was sent is for this unit where it sends something
-abbrev pub IsSentIf : Bool → Answered → List (List ℕ) → (List (List ℕ) → Type 0) → Type 0
-IsSentIf false one sent Later = Later sent
-IsSentIf true one [] Later = ⊥
-IsSentIf true one (bytes ∷ sent) Later = CarriesReply one.mark one.judging bytes × Later sent
+-- the next of what was sent is for this unit where it sends something, and carries that
+abbrev pub IsSentBy : (Mark → Option Judging → List ℕ → Type 0) → Bool → Answered → List (List ℕ) → (List (List ℕ) → Type 0) → Type 0
+IsSentBy Carries false one sent Later = Later sent
+IsSentBy Carries true one [] Later = ⊥
+IsSentBy Carries true one (bytes ∷ sent) Later = Carries one.mark one.judging bytes × Later sent
 
 -- what was sent is, in order, what the units that send something come to, and nothing else
+abbrev pub AreSentBy : (Mark → Option Judging → List ℕ → Type 0) → List Answered → List (List ℕ) → Type 0
+AreSentBy Carries [] [] = Unit {0}
+AreSentBy Carries [] (bytes ∷ sent) = ⊥
+AreSentBy Carries (one ∷ answers) sent =
+    IsSentBy Carries one.sends one sent (λ (rest : List (List ℕ)). AreSentBy Carries answers rest)
+
+abbrev pub IsSentIf : Bool → Answered → List (List ℕ) → (List (List ℕ) → Type 0) → Type 0
+IsSentIf sends one sent Later = IsSentBy CarriesReply sends one sent Later
+
 abbrev pub AreSentFor : List Answered → List (List ℕ) → Type 0
-AreSentFor [] [] = Unit {0}
-AreSentFor [] (bytes ∷ sent) = ⊥
-AreSentFor (one ∷ answers) sent = IsSentIf one.sends one sent (λ (rest : List (List ℕ)). AreSentFor answers rest)
+AreSentFor answers sent = AreSentBy CarriesReply answers sent
 
 -- where a controller stands as bytes come: after how many moves, at which controller, where they came from, under which
 -- name and at which moment

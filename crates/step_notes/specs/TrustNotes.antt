@@ -86,7 +86,7 @@ trust_judged_answer j = trust_judging_by j.how j
 
 abbrev pub trust_call_answer : ControllerCall → Line → Where → Desk → Option Desk → Answered
 trust_call_answer (call.Challenge c) line w before after = plain
-trust_call_answer (call.Authenticate c) line w before after = opening (opened_by w.controller c before) w line.call
+trust_call_answer (call.Authenticate c) line w before after = opening (opened_by w.controller c before) w line.call c.channel
 trust_call_answer (call.Judged c) line w before after = trust_judged_answer (judging_of w line c before after)
 
 abbrev pub trust_heard_answer : Heard → Where → Desk → Option Desk → Answered

@@ -10,6 +10,7 @@ ghost use Rattle.step_notes.specs.KeptNotes.{CallsAreKept};
 ghost use Rattle.step_notes.specs.ReplySends.{RepliesAreSentAsJudged};
 ghost use Rattle.step_notes.specs.TakenWhole.{MembersTakeWhole};
 ghost use Rattle.step_notes.specs.TrustNotes.{NotesAreAlike};
+ghost use Rattle.step_notes.specs.TrustReplies.{TrustRepliesAreSent};
 
 /// Where a controller grants a Logon call, it tells one judgement and sends one reply, which carries what the account
 /// is granted. The key in it is the session base key of the stored hash and the response, under the session key of the
@@ -28,6 +29,16 @@ pub fn grants_carry_their_key()
 #[tactic(auto, using(crate::proofs::Controllers::ReplyStepLaws::replies_sent))]
 pub fn replies_are_sent_as_judged()
     ensures { RepliesAreSentAsJudged }
+{}
+
+/// Where bytes come on an accepted link, whoever sent them, a controller that may hand logons on sends one unit of
+/// bytes for each unit that is written down as answered then, in their order. Each that is marked as a reply is that
+/// of the call that is written down with it, as of one that asks nobody; or, where a logon could be asked of nobody,
+/// it is the reply with NO_LOGON_SERVERS, at the level that was asked for and with the credential that is returned
+/// (MS-NRPC 3.5.4.5.3). For a call that is handed on nothing is sent then.
+#[tactic(auto, using(crate::proofs::Controllers::TrustReplyLaws::trust_replies_sent))]
+pub fn replies_of_trusting_are_sent()
+    ensures { TrustRepliesAreSent }
 {}
 
 /// Where a controller has its ranges, each call on a secure channel is judged in them, whatever it asks. The bytes of

@@ -149,7 +149,7 @@ opening_trail s t next number client server account computers kept left moment s
     let d : Desk = desk_in_turn t computers in
     let then_so : Option Desk = work_after (by_call (served_call c) (turn_line t.link next) (bound_talk None turn_agreed) t.name moment d left) in
     let expects : Expects d channel client server = record { account = account; found = found; secret = hash; pair = waits } in
-    let one : (unit : ℕ) → answer_in_turn s3 t next c computers k unit left moment ≡ opening (Some named) (where_in_turn s3 t next c computers k unit) next =
+    let one : (unit : ℕ) → answer_in_turn s3 t next c computers k unit left moment ≡ opening (Some named) (where_in_turn s3 t next c computers k unit) next channel.caller.kind =
     λ unit. channels_are_named_alike.openings.opens channel client server (where_in_turn s3 t next c computers k unit) (turn_line t.link next) d then_so expects in
     let called : Called s3 t next c computers k 0 left moment b =
     call_comes s3 t (after next) next (step.Reply q) c computers left left moment 0 0 _ _ between below_next is_call steps seen.call k b f.fine

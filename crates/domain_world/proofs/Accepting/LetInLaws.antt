@@ -315,7 +315,7 @@ end_goes end w piece s after given b carries kept =
 
 -- ---- a run
 
-kept_on : KeepsEndsBy every IsKept
+pub kept_on : KeepsEndsBy every IsKept
 kept_on = record {
   calm = λ at on end what s given b calm kept. calm_goes at on end what s given b (calm_no_bytes what calm) (calm_meets end s.links what calm) kept;
   dialled = λ at end link s given b side kept. calm_goes at None end (event.Dialled link) s given b tt (side_meets end s.links link side) kept;
@@ -348,7 +348,7 @@ fresh_kept [] Kept fresh k m there = absurd cc
 fresh_kept (plan ∷ plans) Kept fresh zero m there = let is : fresh_member plan ≡ m = cc in subst (λ (x : MemberState). Kept x.running) is (fresh plan)
 fresh_kept (plan ∷ plans) Kept fresh (suc k) m there = fresh_kept plans Kept fresh k m there
 
-first_kept : (plan : Plan) (on : Option Delivery) → IsKept 0 on (ends_in (plain_world plan).state) [] blank
+pub first_kept : (plan : Plan) (on : Option Delivery) → IsKept 0 on (ends_in (plain_world plan).state) [] blank
 first_kept plan on = record {
   keeps = record {
     each = λ k m there. fresh_kept plan.members (λ r. KeptIn (HasFor (Late on [] k) 0 k []) (λ number. IsDialledBy [] k number) r) (λ one. (tt, tt)) k m there;

@@ -145,19 +145,19 @@ module _ (w : Where) (link : ℕ) (name : List ℕ) (now : ℕ) (unit : RpcUnit)
   is_plain : Is plain
   is_plain = record { opens = λ a is. absurd (no_some a is); judges = λ j is. absurd (no_some j is) }
 
-  opened_is : (found : Option ChannelIdentity) (number : ℕ) (c : AuthCall) → call_carried unit.body ≡ Some (call.Authenticate c) →
-      ((channel : ChannelIdentity) → found ≡ Some channel → IsOpenedFor w.controller table c channel) → (a : ChannelAccepted) → (opening found w number).accepted ≡ Some a → OpensBy w.controller unit table a
-  opened_is None number c carried opened a is = absurd (no_some a is)
-  opened_is (Some channel) number c carried opened a is =
-      subst (λ (x : ChannelAccepted). OpensBy w.controller unit table x) (some_is (accepting w number channel) a is) (record { asked = c; carried = carried; opened = opened channel refl })
+  opened_is : (found : Option ChannelIdentity) (number kind : ℕ) (c : AuthCall) → call_carried unit.body ≡ Some (call.Authenticate c) →
+      ((channel : ChannelIdentity) → found ≡ Some channel → IsOpenedFor w.controller table c channel) → (a : ChannelAccepted) → (opening found w number kind).accepted ≡ Some a → OpensBy w.controller unit table a
+  opened_is None number kind c carried opened a is = absurd (no_some a is)
+  opened_is (Some channel) number kind c carried opened a is =
+      subst (λ (x : ChannelAccepted). OpensBy w.controller unit table x) (some_is (accepting w number kind channel) a is) (record { asked = c; carried = carried; opened = opened channel refl })
 
-  is_opening : (d : Desk) (line : Line) (c : AuthCall) → call_carried unit.body ≡ Some (call.Authenticate c) → StandsSo d → Is (opening (opened_by w.controller c d) w line.call)
+  is_opening : (d : Desk) (line : Line) (c : AuthCall) → call_carried unit.body ≡ Some (call.Authenticate c) → StandsSo d → Is (opening (opened_by w.controller c d) w line.call c.channel)
   is_opening d line c carried stands = record {
-    opens = opened_is (opened_by w.controller c d) line.call c carried
+    opens = opened_is (opened_by w.controller c d) line.call c.channel c carried
         (λ channel opened.
         account_opened w.controller table c (account_for d.table c) (lookup same_name c.computer d.work.computers.pending) (ap (λ (t : AccountTable). account_for t c) (sym (stands.table_is c carried)))
         channel opened);
-    judges = λ j is. absurd (no_some j (sym (opening_judging (opened_by w.controller c d) w line.call) ∙ is));
+    judges = λ j is. absurd (no_some j (sym (opening_judging (opened_by w.controller c d) w line.call c.channel) ∙ is));
   }
 
   kept_by : (found : Option (List ℕ)) (computers : Computers) (computer : List ℕ) → found ≡ Some computer → (c : ChannelIdentity) →

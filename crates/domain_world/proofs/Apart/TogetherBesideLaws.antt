@@ -16,7 +16,8 @@ use Rattle.domain_world.proofs.Apart.TogetherRunLaws.{Beneath, beneath_keep, fir
 use Rattle.domain_world.proofs.Frames.ControllerFrameLaws.{AmongControllers, controllers_written}
 use Rattle.domain_world.proofs.Frames.EndNoteLaws.{acceptings_of, judgings_of}
 use Rattle.domain_world.proofs.Frames.FrameLaws.{OfSide, side_keeps}
-use Rattle.domain_world.proofs.Frames.MoveKeepLaws.{Both, KeepsMoves, MoveFact, NoSide, Progress, beside, join_moves, started}
+use Rattle.domain_world.proofs.Frames.ByKindLaws.{alone_kinds}
+use Rattle.domain_world.proofs.Frames.MoveKeepLaws.{Both, alone, KeepsMoves, MoveFact, NoSide, Progress, beside, join_moves, started}
 use Rattle.domain_world.proofs.Frames.StepFrameLaws.{AnyAction, BothFacts, BothFine, KeepsWith, NoFact, OfSteps, join_with, steps_keep}
 use Rattle.domain_world.proofs.Judgements.GrantLaws.{ByPlan, first_stands as first_by_plan, stand_on as by_plan_on}
 use Rattle.domain_world.proofs.Judgements.Openings.OpeningRunLaws.{Follows, first_follows, follow_on}
@@ -30,7 +31,7 @@ use Rattle.domain_world.proofs.Sequences.Own.OwnWalkLaws.{own_keeps}
 use Rattle.domain_world.proofs.Sequences.Own.OwnWholeLaws.{own_comes}
 
 abbrev pub Dials : MoveFact
-Dials = OfDials TurnsKnown turns_keep
+Dials = OfDials TurnsKnown
 
 -- the calls of turns
 abbrev pub OwnSteps : Plan → MoveFact
@@ -63,7 +64,7 @@ module _ (plan : Plan) (member : ℕ) (begins : BeginsAlike plan member) (place 
       (λ n at on s given b side holds. ((turns_keep_on plan).over n at s given b tt holds.0, own_ends plan n at s given b side.1 holds.1))
 
   with_dials : KeepsMoves (Unit {0}) NoSide (Both Base Dials)
-  with_dials = join_moves (Unit {0}) Base Dials (beneath_keep plan member begins place asks) (beside (Unit {0}) Base Dials (dials_keep TurnsKnown turns_keep (Unit {0})))
+  with_dials = join_moves (Unit {0}) Base Dials (beneath_keep plan member begins place asks) (beside (Unit {0}) Base Dials (dials_keep alone alone_kinds TurnsKnown (turns_keep alone alone_kinds) (Unit {0})))
 
   with_own : KeepsMoves (Unit {0}) NoSide (Both (Both Base Dials) (OwnSteps plan))
   with_own = join_moves (Unit {0}) (Both Base Dials) (OwnSteps plan) with_dials own_steps

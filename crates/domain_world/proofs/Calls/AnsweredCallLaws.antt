@@ -1,5 +1,5 @@
 -- A message whose answer was taken has a call: a member takes an answer in a turn whose call is out, and one of the
--- messages on the link of the turn's logon has that call. It serves `runs_stand_so` and `Proved.call_marks`.
+-- messages on the link of the turn's logon has that call. It serves `Proved.have_calls`.
 use Rattle.std.proofs.Common.{◌≡◌, ◌⊎◌, ℕ, ◌==◌, Bool, true, false, List, [], ◌∷◌, ◌++◌, map, inl, inr, Option, Some, None, refl, sym, ap, ◌∙◌, subst}
 use Rattle.std.specs.List.{AllByRecursion}
 use Rattle.std.proofs.lemmas.Bool.{eqb-true}
@@ -11,26 +11,27 @@ use Rattle.channel_client.specs.State.{Requester}
 use Rattle.channel_client.specs.declared.answers.Taken.{Taken}
 use Rattle.channel_client.specs.declared.answers.Taken.TheVariants as taken
 use Rattle.logon_stubs.specs.declared.info.Verdict.{Verdict}
+use Rattle.channel_client.specs.declared.state.Pending.{Pending}
 use Rattle.channel_client.specs.declared.state.Question.TheVariants as question
 use Rattle.channel_client.specs.declared.state.Standing.{Standing}
 use Rattle.channel_client.specs.declared.state.Standing.TheVariants as standing
 use Rattle.channel_client.specs.declared.state.Step.{Step}
 use Rattle.channel_client.specs.declared.state.Step.TheVariants as step
 use Rattle.wire_base.specs.Lists.{OneOf}
-use Rattle.wire_base.proofs.ListLaws.{all_weaker, one_weaker, some_is}
+use Rattle.wire_base.proofs.ListLaws.{all_weaker, some_is}
 use Rattle.member_server.specs.declared.state.Logon.{Logon}
 use Rattle.member_server.specs.declared.state.Logons.{Logons}
 use Rattle.member_server.specs.declared.state.Running.{Running}
-use Rattle.step_notes.specs.ChannelNames.{place_answered, standing_channel}
+use Rattle.step_notes.specs.ChannelNames.{place_answered}
 use Rattle.step_notes.specs.MemberNotes.{TurnNote, asked_note, link_of_logon, link_of_place, taken_note, taking_note}
-use Rattle.step_notes.specs.Records.{MessageTaken, Sent}
+use Rattle.step_notes.specs.Records.{MessageTaken}
 use Rattle.step_notes.proofs.Members.KeptLogonLaws.{one_before}
 use Rattle.domain_world.specs.Past.{change_if, change_message, with_answer, with_call}
 use Rattle.domain_world.proofs.Accepting.Heard.AnswerReadLaws.{IsAnswerOf, answer_is}
 use Rattle.domain_world.proofs.Messages.MessageNoteLaws.{changed}
 use Rattle.domain_world.proofs.Accepting.Turns.TurnNotedLaws.{answered_is}
 use Rattle.wire_base.proofs.AllLaws.{all_join}
-use Rattle.domain_world.proofs.Calls.OutStepLaws.{IsOutIn, OutFor}
+use Rattle.domain_world.proofs.Calls.OutStepLaws.{OutBy}
 use Rattle.domain_world.proofs.Calls.WholeOutLaws.{changed_all, noted}
 
 -- ---- what is to hold
@@ -45,6 +46,22 @@ IfAnswered messages message = (u : ℕ) → message.reply ≡ Some u → OneOf (
 
 abbrev pub AreCalled : List MessageTaken → Type 0
 AreCalled messages = AllByRecursion (IfAnswered messages) messages
+
+-- where the turn waits for the answer to a Logon call, one of the messages on the link of its logon has a call
+abbrev pub HasCalled : List MessageTaken → Pending → Logon → Requester → Type 0
+HasCalled messages pending logon c = OneOf (IsCalledOn logon.link) messages
+
+abbrev pub CalledAt : List MessageTaken → Logons → Type 0
+CalledAt messages logons =
+    (pending : Pending) (logon : Logon) → logons.channel.turn ≡ Some pending → pending.step ≡ step.Reply question.Logon →
+    lookup same_number pending.place logons.asked ≡ Some logon → HasCalled messages pending logon logons.channel
+
+abbrev pub CalledFor : List MessageTaken → Option Running → Type 0
+CalledFor messages r = OutBy (HasCalled messages) r
+
+-- the call that a unit comes to, if it comes to one, has a number
+abbrev pub GoesNumbered : TurnNote → Option ℕ → Type 0
+GoesNumbered note number = (note.called ≡ None) ⊎ ((request : ℕ) × (number ≡ Some request))
 
 -- ---- it stays
 
@@ -90,7 +107,7 @@ with_answers carried (Some link) messages has called =
     (all_weaker (IfAnswered messages) (IfAnswered after) messages (λ message if_answered u reply. kept message.link (if_answered u reply)) called)
 
 -- what is written down of a unit that the turn took: a call that goes out has its number
-pub noted_called : (note : TurnNote) (logons : Logons) (carried number : Option ℕ) (messages : List MessageTaken) → (note.called ≡ None) ⊎ ((request : ℕ) × (number ≡ Some request)) →
+pub noted_called : (note : TurnNote) (logons : Logons) (carried number : Option ℕ) (messages : List MessageTaken) → GoesNumbered note number →
     ((link : ℕ) → link_of_place note.answered logons ≡ Some link → OneOf (IsCalledOn link) messages) → AreCalled messages → AreCalled (noted note logons carried number messages)
 noted_called note logons carried number messages goes has called = elim goes [
   | inl none ↦
@@ -101,6 +118,20 @@ noted_called note logons carried number messages goes has called = elim goes [
       subst (λ (n : Option ℕ). AreCalled (change_message (link_of_place note.answered logons) (with_answer carried) (change_message found (with_call n) messages))) (sym out.1)
       (with_answers carried (link_of_place note.answered logons) (change_message found (with_call (Some out.0)) messages) (λ link is. call_kept link out.0 found messages (has link is))
       (with_calls out.0 found messages called))
+]
+
+-- a message that has a call keeps one
+pub noted_stays : (link : ℕ) (note : TurnNote) (logons : Logons) (carried number : Option ℕ) (messages : List MessageTaken) → GoesNumbered note number → OneOf (IsCalledOn link) messages →
+    OneOf (IsCalledOn link) (noted note logons carried number messages)
+noted_stays link note logons carried number messages goes one = elim goes [
+  | inl none ↦
+      subst (λ (place : Option ℕ). OneOf (IsCalledOn link) (change_message (link_of_place note.answered logons) (with_answer carried) (change_message (link_of_place place logons) (with_call number) messages)))
+      (sym none) (changed (IsCalledOn link) (link_of_place note.answered logons) (with_answer carried) (λ message is. is) messages one)
+  | inr out ↦
+      let found : Option ℕ = link_of_place note.called logons in
+      subst (λ (n : Option ℕ). OneOf (IsCalledOn link) (change_message (link_of_place note.answered logons) (with_answer carried) (change_message found (with_call n) messages))) (sym out.1)
+      (changed (IsCalledOn link) (link_of_place note.answered logons) (with_answer carried) (λ message is. is) (change_message found (with_call (Some out.0)) messages)
+      (call_kept link out.0 found messages one))
 ]
 
 -- ---- what a unit is taken for
@@ -140,27 +171,26 @@ taken_cases (taken.Answer place v) = inl (place, v, refl)
 taken_cases (taken.Dropped place cause) = inr refl
 taken_cases taken.Set = inr refl
 
-module _ (units : List Sent) (messages : List MessageTaken) (controller member : ℕ) (running : Running) (unit : RpcUnit) (out : OutFor units messages controller member (Some running)) where
+module _ (messages : List MessageTaken) (controller : ℕ) (logons : Logons) (unit : RpcUnit) (out : CalledAt messages logons) where
   abbrev c : Requester
-  c = running.logons.channel
+  c = logons.channel
 
-  logon_called : (place : ℕ) (v : Verdict) (found : Option Logon) (link : ℕ) → (take_of c unit).taken ≡ taken.Answer place v → lookup same_number place running.logons.asked ≡ found →
+  logon_called : (place : ℕ) (v : Verdict) (found : Option Logon) (link : ℕ) → (take_of c unit).taken ≡ taken.Answer place v → lookup same_number place logons.asked ≡ found →
       link_of_logon found ≡ Some link → OneOf (IsCalledOn link) messages
   logon_called place v None link takes there is = absurd (let x = is in cc)
   logon_called place v (Some logon) link takes there is =
       let its : IsAnswerOf c unit place v = answer_is c unit place v takes in
-      one_weaker (IsOutIn units member its.pending logon (standing_channel controller c)) (IsCalledOn link) messages
-      (λ message one. (one.link ∙ some_is logon.link link is, one.request, one.call))
-      (out its.pending logon its.turn its.asked (subst (λ (n : ℕ). lookup same_number n running.logons.asked ≡ Some logon) its.same_place there))
+      subst (λ (l : ℕ). OneOf (IsCalledOn l) messages) (some_is logon.link link is)
+      (out its.pending logon its.turn its.asked (subst (λ (n : ℕ). lookup same_number n logons.asked ≡ Some logon) its.same_place there))
 
   -- the logon whose answer is taken has its call out
-  pub answer_called : (link : ℕ) → link_of_place (taking_note (Some (take_of c unit)) controller c).answered running.logons ≡ Some link → OneOf (IsCalledOn link) messages
+  pub answer_called : (link : ℕ) → link_of_place (taking_note (Some (take_of c unit)) controller c).answered logons ≡ Some link → OneOf (IsCalledOn link) messages
   answer_called link is =
-      let place_is : link_of_place (place_answered (take_of c unit).taken) running.logons ≡ Some link =
-      ap (λ (place : Option ℕ). link_of_place place running.logons) (sym (answered_is (take_of c unit).taken controller c (take_of c unit).state)) ∙ is in
+      let place_is : link_of_place (place_answered (take_of c unit).taken) logons ≡ Some link =
+      ap (λ (place : Option ℕ). link_of_place place logons) (sym (answered_is (take_of c unit).taken controller c (take_of c unit).state)) ∙ is in
       elim (taken_cases (take_of c unit).taken) [
         | inl answer ↦
-            logon_called answer.0 answer.1 (lookup same_number answer.0 running.logons.asked) link answer.2 refl
-            (ap (λ (t : Taken). link_of_place (place_answered t) running.logons) (sym answer.2) ∙ place_is)
-        | inr none ↦ absurd (let never : None ≡ Some link = ap (λ (place : Option ℕ). link_of_place place running.logons) (sym none) ∙ place_is in let x = never in cc)
+            logon_called answer.0 answer.1 (lookup same_number answer.0 logons.asked) link answer.2 refl
+            (ap (λ (t : Taken). link_of_place (place_answered t) logons) (sym answer.2) ∙ place_is)
+        | inr none ↦ absurd (let never : None ≡ Some link = ap (λ (place : Option ℕ). link_of_place place logons) (sym none) ∙ place_is in let x = never in cc)
       ]

@@ -1,5 +1,5 @@
 -- Bytes that come at an end keep what is known of calls. It serves `runs_stand_so`.
-use Rattle.std.proofs.Common.{◌≡◌, ℕ, ◌+◌, ◌*◌, ◌==◌, ◌&&◌, Bool, true, false, List, [], ◌∷◌, ◌++◌, drop, length, map, inl, inr, Option, Some, None, Result, Ok, Err, slice_get, refl, sym, ap, ◌∙◌, subst, arith}
+use Rattle.std.proofs.Common.{◌≡◌, ℕ, ◌+◌, ◌*◌, ◌==◌, ◌&&◌, Bool, true, false, List, [], ◌∷◌, ◌++◌, drop, length, map, Option, Some, None, Result, Ok, Err, slice_get, refl, sym, ap, ◌∙◌, subst, arith}
 use Rattle.std.specs.Prelude.{flat_map}
 use Rattle.std.specs.List.{AllByRecursion}
 use Rattle.std.proofs.lemmas.Bool.Decides.{Decides-eqb}
@@ -11,7 +11,6 @@ use Rattle.rpc_units.specs.Calls.{IsHeard}
 use Rattle.rpc_units.specs.declared.unit.Unit.{Unit as RpcUnit}
 use Rattle.end_links.specs.Links.{LinkState}
 use Rattle.end_links.specs.Serving.{ServedUnit}
-use Rattle.channel_client.specs.Machine.{take_of}
 use Rattle.channel_events.specs.Marks.{Calling, Mark, Opened, Opening, Plain, ReplyTo}
 use Rattle.channel_events.specs.Requests.{CallsAreApart, IsNoRequest}
 use Rattle.wire_base.proofs.ListLaws.{all_weaker, got_append, one_weaker}
@@ -46,8 +45,6 @@ use Rattle.domain_world.specs.Accepting.Answered.{IsItsWay}
 use Rattle.domain_world.specs.Past.{Delivery, at_controller, at_member, first_of, marks_of, note_messages, numbers_on, sent_at, controller_asked}
 use Rattle.domain_world.proofs.Frames.AloneNoteLaws.{alone_answers as answers_of, note_controller_alone as note_controller}
 use Rattle.domain_world.proofs.Accepting.LetInStepLaws.{IsAcceptedBy, IsDialledBy}
-use Rattle.domain_world.proofs.Accepting.Turns.TurnNotedLaws.{units_new}
-use Rattle.domain_world.proofs.Calls.AnsweredCallLaws.{AreCalled, IsCalledOn, answer_called, called_more, calls_go_out, noted_called}
 use Rattle.domain_world.proofs.Calls.CallHoldsLaws.{CallsHold, differ_front, marks_append, marks_in, marks_sent, member_changed, sent_more, views_at}
 use Rattle.domain_world.proofs.Calls.CallStepLaws.{KeptSo, coherent_if, controller_hears}
 use Rattle.domain_world.proofs.Calls.MarkWayLaws.{answers_way}
@@ -195,8 +192,7 @@ module _ (n at : ℕ) (w : Delivery) (piece : List ℕ) (s after : State) (b : B
       (other_holds s.links b.sent b.messages its here m.running piece s.moment s.chances.left other own)
       (λ k differs. messages_more s.links b.sent b.sent b.messages (news m) k (λ j unit there. there))
       (all_join (λ (message : MessageTaken). IsAcceptedBy s.links message.member message.link) b.messages (news m) holds.accepted
-      (new_accepted s.links here m piece s.moment s.chances.left own.accepts))
-      (called_more b.messages (news m) (units_new here (link_units m w.link piece s.moment s.chances.left)) holds.answered)))
+      (new_accepted s.links here m piece s.moment s.chances.left own.accepts))))
 
   -- ---- on the link of its turn
 
@@ -338,16 +334,6 @@ module _ (n at : ℕ) (w : Delivery) (piece : List ℕ) (s after : State) (b : B
       accepted_after (Err why) accepted = accepted
       accepted_after (Ok part) accepted = noted_accepted s.links note running.logons (unit_in w.source) (first_of numbers) all_messages accepted
 
-      answered_after : (part : Result (Part DialWork) StepRefused) → stepped ≡ part → AreCalled all_messages → MemberHolds s.links b.sent b.messages its at (Some running) → AreCalled (noted_by part)
-      answered_after (Err why) is called own = called
-      answered_after (Ok part) is called own =
-          noted_called note running.logons (unit_in w.source) (first_of numbers) all_messages
-          (elim (calls_go_out (take_of running.logons.channel whole.unit).taken its running.logons.channel (take_of running.logons.channel whole.unit).state) [
-            | inl none ↦ inl none
-            | inr sends ↦ (let sent_so : IsSentAs note (first_of numbers) sent = request_sent part is sends in inr (sent_so.request, sent_so.numbered))
-          ])
-          (λ link there. one_before (IsCalledOn link) b.messages (news m) (answer_called b.sent b.messages its at running whole.unit own.out link there)) called
-
       -- the whole unit is taken
       pub whole_comes : slice_get s.ends.members at ≡ Some m → KeptIn n s b → NotedBy m (turn_units m w.link piece s.moment left)
       whole_comes is kept few differ =
@@ -373,5 +359,4 @@ module _ (n at : ℕ) (w : Delivery) (piece : List ℕ) (s after : State) (b : B
           (subst (λ (all : List Mark).
           CallsAreApart (requests_after (views_at s.member_plans s.ends) at its (step_of m (event.Bytes w.link piece) s.moment left).state.running all (s.chances.drawn ++ drawn) (2 * n + 2)))
           (sym now_marks) apart)
-          (own_after stepped refl own) (λ k differs. others_after stepped k differs accepted own) (accepted_after stepped accepted)
-          (answered_after stepped refl (called_more b.messages (news m) (units_new here (link_units m w.link piece s.moment left)) holds.answered) own)))
+          (own_after stepped refl own) (λ k differs. others_after stepped k differs accepted own) (accepted_after stepped accepted)))

@@ -61,8 +61,6 @@ use Rattle.domain_world.proofs.Frames.BagFrameLaws.{IsServer}
 use Rattle.domain_world.proofs.Moves.ComingLaws.{CameFrom, CameInUnit, IsPieceOf, came_in_unit}
 use Rattle.domain_world.proofs.Moves.MarkPlaceLaws.{got_map}
 use Rattle.domain_world.proofs.Frames.StepFrameLaws.{AnyAction, ActionFact, BothFacts, BothFine, HoldsAfterRun, StepKeeps, NoFact, RunFact, join, run_keeps, with_side}
-use Rattle.domain_world.proofs.Moves.DrawnRunLaws.{draws_differ}
-use Rattle.domain_world.proofs.Calls.AnsweredCallLaws.{AreCalled}
 use Rattle.domain_world.proofs.Calls.CallComesLaws.{IsWhole, KeptAfter, KeptIn, controller_comes, other_comes, whole_comes}
 use Rattle.domain_world.proofs.Calls.CallHoldsLaws.{CallsHold, differ_front, link_more, marks_in, plans_so, requests_at, sent_more}
 use Rattle.domain_world.proofs.Calls.CallStepLaws.{KeptSo, member_changes, client_anew, client_hears, controller_anew, controller_hears, member_anew, member_hears, none_so}
@@ -273,7 +271,6 @@ first_calls plan = λ few differ. record {
       let found = got_map fresh_member plan.members k m there in
       subst (λ (x : MemberState). MemberHolds [] [] [] (controller_asked (OfMember k) (plain_world plan).state) k x.running) found.2 (fresh_holds _ k found.0);
   accepted = tt;
-  answered = tt;
 }
 
 -- ---- after a run
@@ -348,12 +345,3 @@ pub schedules_stand : OfSchedules (λ plan moves. DrawsDiffer (past plan moves).
 schedules_stand plan moves nobody schedule differ =
     stand_so QuietFact QuietAction (λ n s given b quiet. is_quiet s quiet) quiet_keeps plan moves nobody (quiet_first plan schedule.start schedule.forms) (has_bytes plan moves nobody schedule)
     schedule differ
-
--- where the answer of a message was taken, there is a call on its link
-pub schedules_called : OfSchedules (λ plan moves. AreCalled (past plan moves).book.messages)
-schedules_called plan moves nobody schedule =
-    let both : StepKeeps NoFact (BothFacts QuietFact CallsKept) (BothFine QuietAction AnyAction) =
-    join QuietFact CallsKept QuietAction AnyAction quiet_keeps (with_side QuietSide QuietFact CallsKept AnyAction (λ n s given b quiet. is_quiet s quiet) calls_keep) in
-    let after : HoldsAfterRun (BothFacts QuietFact CallsKept) plan moves =
-    run_keeps (BothFacts QuietFact CallsKept) (BothFine QuietAction AnyAction) both plan moves nobody (has_bytes plan moves nobody schedule) (quiet_first plan schedule.start schedule.forms, first_calls plan) in
-    (after.holds.1 (omega (arith, after.few, schedule.few)) (draws_differ plan moves)).answered

@@ -22,7 +22,6 @@ use Rattle.domain_world.specs.Accepting.SeenSteps.{Differ, NoRequests, requests_
 use Rattle.domain_world.specs.Past.{controller_number, controller_of_plan, sent_at}
 use Rattle.domain_world.proofs.Accepting.LetInStepLaws.{IsAcceptedBy}
 use Rattle.domain_world.proofs.Messages.MessageOnceLaws.{set_cases}
-use Rattle.domain_world.proofs.Calls.AnsweredCallLaws.{AreCalled}
 use Rattle.domain_world.proofs.Calls.LooserLaws.{drawn_before, requests_before, looser}
 use Rattle.domain_world.proofs.Calls.OutStepLaws.{IsOutIn, MemberHolds, StaysKnown, stays_known}
 use Rattle.domain_world.proofs.Calls.StepApartLaws.{differ_later, seen_member}
@@ -71,13 +70,11 @@ mark_there (first ∷ sent) (suc n) one there = mark_there sent n one there
 abbrev pub requests_at : ℕ → List MemberPlan → EndStates → List (List ℕ) → List Sent → Requests ℕ
 requests_at n plans ends drawn sent = record { views = views_at plans ends; marks = marks_in sent; drawn = drawn; uses = 2 * n }
 
--- calls are apart, of each member what it keeps is known, each message came on a link that its member accepted, and
--- where its answer was taken there is a call on that link
+-- calls are apart, of each member what it keeps is known, and each message came on a link that its member accepted
 pub record CallsHold (n : ℕ) (plans : List MemberPlan) (ends : EndStates) (drawn : List (List ℕ)) (links : List Route) (sent : List Sent) (messages : List MessageTaken) : Type 0 where
   pub apart : CallsAreApart (requests_at n plans ends drawn sent)
   pub members : (k : ℕ) (m : MemberState) → slice_get ends.members k ≡ Some m → MemberHolds links sent messages (controller_of_plan (slice_get plans k) ends) k m.running
   pub accepted : AreAccepted links messages
-  pub answered : AreCalled messages
 
 -- ---- draws
 
@@ -119,7 +116,6 @@ module _ (n later : ℕ) (onward : n ≤ later) (plans : List MemberPlan) (ends 
         subst (λ (c : ℕ). MemberHolds links sent messages c k m.running) (sym (controller_same (slice_get plans k) ends after numbers))
         (holds.members k m (subst (λ (members : List MemberState). slice_get members k ≡ Some m) same there));
     accepted = holds.accepted;
-    answered = holds.answered;
   }
 
 -- more steps were taken
@@ -130,7 +126,6 @@ more_steps n later plans ends drawn links sent messages onward holds = record {
       (record { views = λ k v at. at; marks = λ unit number c mark asks there. there; drawn = λ challenge is. is; uses = omega (arith, onward) }) holds.apart;
   members = holds.members;
   accepted = holds.accepted;
-  answered = holds.answered;
 }
 
 -- the plans are others, which are alike but for secrets: each is seen as it was
@@ -148,7 +143,6 @@ plans_so n plans later ends drawn links sent messages alike holds = record {
   }) holds.apart;
   members = λ k m there. subst (λ (c : ℕ). MemberHolds links sent messages c k m.running) (sym (controllers_alike plans later k ends alike)) (holds.members k m there);
   accepted = holds.accepted;
-  answered = holds.answered;
 }
 
 -- ---- units that are no requests are written down
@@ -187,7 +181,6 @@ sent_more n plans ends drawn links sent more messages none holds = record {
   members = λ k m there.
       stays_known links links sent (sent ++ more) messages messages (controller_of_plan (slice_get plans k) ends) k m.running (sent_known links sent more messages k) (holds.members k m there);
   accepted = holds.accepted;
-  answered = holds.answered;
 }
 
 -- ---- a link is made
@@ -209,7 +202,6 @@ link_more n plans ends drawn links route sent messages holds = record {
       }) (holds.members k m there);
   accepted = all_weaker (λ (message : MessageTaken). IsAcceptedBy links message.member message.link) (λ (message : MessageTaken). IsAcceptedBy (links ++ route ∷ []) message.member message.link) messages
       (λ message is. accepted_on links route message.member message.link is) holds.accepted;
-  answered = holds.answered;
 }
 
 -- ---- a member changes
@@ -253,9 +245,9 @@ module _ (plans : List MemberPlan) (ends : EndStates) (at : ℕ) (new : MemberSt
       CallsHold n plans ends drawn links sent messages →
       CallsAreApart (requests_after (views_at plans ends) at (controller_of_plan (slice_get plans at) ends) new.running (marks_in more) after uses) →
       MemberHolds links more messages_after (controller_of_plan (slice_get plans at) ends) at new.running →
-      ((k : ℕ) → (k ≡ at → ⊥) → StaysKnown links links sent more messages messages_after k) → AreAccepted links messages_after → AreCalled messages_after →
+      ((k : ℕ) → (k ≡ at → ⊥) → StaysKnown links links sent more messages messages_after k) → AreAccepted links messages_after →
       CallsHold later plans with_new after links more messages_after
-  member_changed n later uses drawn after links sent more messages messages_after few holds apart own others accepted answered = record {
+  member_changed n later uses drawn after links sent more messages messages_after few holds apart own others accepted = record {
     apart = looser (requests_after (views_at plans ends) at (controller_of_plan (slice_get plans at) ends) new.running (marks_in more) after uses) (requests_at later plans with_new after more) (record {
       views = seen_after;
       marks = λ unit number c mark asks there. there;
@@ -272,5 +264,4 @@ module _ (plans : List MemberPlan) (ends : EndStates) (at : ℕ) (new : MemberSt
               stays_known links links sent more messages messages_after (controller_of_plan (slice_get plans k) ends) k m.running (others k (λ is. other.0 is)) (holds.members k m other.1)
         ]);
     accepted = accepted;
-    answered = answered;
   }

@@ -1,7 +1,6 @@
 -- The unit that goes out as the call of a message is marked as a call on a channel with the controller of whose units
 -- the member takes note. It serves `Proved.call_marks`.
 use Rattle.std.proofs.Common.{◌≡◌, ℕ, Bool, true, false, List, [], ◌∷◌, ◌++◌, map, Option, Some, None, refl, subst}
-use Rattle.std.specs.List.{AllByRecursion}
 use Rattle.wire_base.specs.Maps.{lookup, same_number}
 use Rattle.authenticators.specs.Channels.{ChannelIdentity}
 use Rattle.authenticators.specs.SecureChannels.{channel_of}
@@ -28,8 +27,8 @@ use Rattle.domain_world.specs.Past.{first_of, later_of}
 use Rattle.wire_base.proofs.ListLaws.{no_some, some_is}
 use Rattle.step_notes.proofs.Members.KeptLogonLaws.{OfEach, each_found}
 use Rattle.domain_world.proofs.Moves.MarkNumberLaws.{AtNumbers, at_later}
-use Rattle.domain_world.proofs.Calls.CallWholeLaws.{IsReadyUnit}
 use Rattle.domain_world.proofs.Calls.CalledUnitLaws.{GoodTurn, GoodTurns}
+use Rattle.domain_world.proofs.Messages.CallMessageLaws.{AllHold, EachFits}
 
 -- ---- what a unit of the turn is noted as
 
@@ -105,14 +104,13 @@ module _ (At : ℕ → Mark → Type 0) (Own : ℕ → Type 0) (Good : ℕ → �
       subst (Good link) (some_is first n number)
       (so link first mark (link_own place link logons.asked (lookup same_number place logons.asked) refl there each) at.0 (calls place refl).1)
 
-  -- where each logon that is kept came on a link of which `Own` holds, the call of each has its mark
-  pub turns_marked : (link : ℕ) (units : List (ServedUnit AtTurn TurnTalk)) (numbers : List ℕ) →
-      AllByRecursion (IsReadyUnit (λ (at : ℕ) (logon : Logon). Own logon.link) link controller) units →
+  -- where each logon that is kept came on such a link, the call of each has its mark
+  pub turns_marked : (units : List (ServedUnit AtTurn TurnTalk)) (numbers : List ℕ) → AllHold (EachFits (λ (at : ℕ) (logon : Logon). Own logon.link)) units →
       AtNumbers At (turn_marks (map (turn_note controller) units)) numbers → GoodTurns Good controller units numbers
-  turns_marked link [] numbers ready at = tt
-  turns_marked link (served ∷ units) numbers ready at =
+  turns_marked [] numbers fits at = tt
+  turns_marked (served ∷ units) numbers fits at =
       let note : TurnNote = turn_note controller served in
       let more : List Mark = turn_marks (map (turn_note controller) units) in (
-        turn_marked note.sends note.mark note.called served.work.work.logons numbers more (turn_so controller served) ready.0.ready.each at,
-        turns_marked link units (later_of note.sends numbers) ready.1 (at_later At note.sends note.mark more numbers at),
+        turn_marked note.sends note.mark note.called served.work.work.logons numbers more (turn_so controller served) fits.0 at,
+        turns_marked units (later_of note.sends numbers) fits.1 (at_later At note.sends note.mark more numbers at),
       )

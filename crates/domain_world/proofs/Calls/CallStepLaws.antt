@@ -114,7 +114,7 @@ module _ (n : ℕ) (plans : List MemberPlan) (ends : EndStates) (links : List Ro
       member_changed plans ends at (step_of m what now chances.left).state n (n + 1) (2 * n + 1) chances.drawn drawn links sent sent messages messages (omega arith) holds
       (other_apart (views_at plans ends) at controller m.running what now chances.left (marks_in sent) chances.drawn (2 * n) (omega (arith, few))
       (hears_none (λ number. IsDialledBy links at number) m.running what dials) (coherent_if m.running own.asks) (ap (λ (x : Option MemberState). seen_member controller x) is) holds.apart differ)
-      (quiet_holds links sent messages controller at m.running what now chances.left dials opens own) (λ k other. nothing_new links sent messages k) holds.accepted holds.answered
+      (quiet_holds links sent messages controller at m.running what now chances.left dials opens own) (λ k other. nothing_new links sent messages k) holds.accepted
 
   -- it is made anew
   abbrev pub blank : View
@@ -133,7 +133,7 @@ module _ (n : ℕ) (plans : List MemberPlan) (ends : EndStates) (links : List Ro
       member_changed plans ends at (fresh_member plan) n n (2 * n) drawn drawn links sent sent messages messages (omega arith) holds
       (calls_stay_apart.renewed r at (λ j. seen_or (j == at) (Some blank) (r.views j)) (λ j v seen. seen_anew (j == at) j at (r.views j) v refl seen) holds.apart)
       (record { asks = fresh_asks plan; kept = (tt, tt); accepts = tt; out = λ pending logon turn reply there. absurd (none_out pending turn) })
-      (λ k other. nothing_new links sent messages k) holds.accepted holds.answered
+      (λ k other. nothing_new links sent messages k) holds.accepted
 
   -- a member that begins to change its secret is seen as it was
   pub seen_still : (secret : List ℕ) (running : Running) (at j : ℕ) (hit : Bool) (v : View) → slice_get ends.members at ≡ Some (record { running = Some running }) → (j == at) ≡ hit →
@@ -156,4 +156,4 @@ module _ (n : ℕ) (plans : List MemberPlan) (ends : EndStates) (links : List Ro
         uses = omega arith;
       }) holds.apart)
       (record { asks = change_asks secret running none own.asks; kept = own.kept; accepts = own.accepts; out = own.out })
-      (λ k other. nothing_new links sent messages k) holds.accepted holds.answered
+      (λ k other. nothing_new links sent messages k) holds.accepted

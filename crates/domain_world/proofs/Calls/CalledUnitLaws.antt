@@ -204,7 +204,7 @@ call_still old bag messages more link n still grows at =
 
 -- ---- the units that a member sends on the link of its turn get their numbers in order
 
-numbers_first : (link : ℕ) (bag : List BagUnit) (unit : BagUnit) (units later : List BagUnit) → later ≡ (bag ++ unit ∷ []) ++ units → is_sent_on link false unit ≡ true →
+pub numbers_first : (link : ℕ) (bag : List BagUnit) (unit : BagUnit) (units later : List BagUnit) → later ≡ (bag ++ unit ∷ []) ++ units → is_sent_on link false unit ≡ true →
     numbers_on link false bag later ≡ length bag ∷ numbers_on link false (bag ++ unit ∷ []) later
 numbers_first link bag unit units later is sent =
     let whole : later ≡ bag ++ (unit ∷ units) = is ∙ append_assoc bag (unit ∷ []) units in

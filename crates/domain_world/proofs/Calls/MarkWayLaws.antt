@@ -1,6 +1,6 @@
 -- In every run each unit that is marked as a request goes on from the end that dialled its link, and each that is
 -- marked as a reply goes back to it. It serves `Proved.ways`.
-use Rattle.std.proofs.Common.{◌≡◌, ℕ, zero, suc, ◌==◌, ◌&&◌, not, Bool, true, false, List, [], ◌∷◌, ◌++◌, drop, length, map, Option, Some, None, refl, sym, ap, ◌∙◌, subst, slice_get}
+use Rattle.std.proofs.Common.{◌≡◌, ℕ, zero, suc, ◌==◌, ◌&&◌, not, Bool, true, false, List, [], ◌∷◌, ◌++◌, map, Option, Some, None, refl, sym, ◌∙◌, subst, slice_get}
 use Rattle.std.specs.List.{AllByRecursion}
 use Rattle.authenticators.specs.Channels.{ChannelIdentity}
 use Rattle.outside.specs.declared.event.Event.TheVariants as event
@@ -38,7 +38,7 @@ use Rattle.step_notes.specs.ControllerNotes.{Where, answer_on, call_answer, chan
 use Rattle.step_notes.specs.Judged.{passed_channel}
 use Rattle.step_notes.specs.Marking.{answered_marks, mark_if, turn_marks}
 use Rattle.step_notes.specs.MemberNotes.{asked_note, taken_note, taking_at, taking_note, taking_read, turn_note, turn_units, TurnNote}
-use Rattle.step_notes.specs.Records.{Book, Forward, Judging, OfMember, RequesterId, Sent, computer_named, unit_in}
+use Rattle.step_notes.specs.Records.{Book, Forward, Judging, OfMember, RequesterId, computer_named, unit_in}
 use Rattle.controller_calls.specs.declared.calls.ControllerCall.{ControllerCall}
 use Rattle.step_notes.specs.Served.{work_after}
 use Rattle.step_notes.specs.TrustNotes.{asking_note, asking_units, base_after, trust_answer_on, trust_heard_answer, trust_judging_by, trust_units_of}
@@ -46,27 +46,17 @@ use Rattle.world_moves.specs.declared.bag.BagUnit.{BagUnit}
 use Rattle.world_moves.specs.declared.moves.Move.{Move}
 use Rattle.world_moves.specs.declared.plan.Plan.{Plan}
 use Rattle.world_moves.specs.declared.state.State.{State}
-use Rattle.world_moves.specs.declared.links.EndId.{EndId}
-use Rattle.world_moves.specs.declared.links.EndId.TheVariants.{Controller, Member, Client}
-use Rattle.world_moves.specs.declared.links.Route.{Route}
-use Rattle.world_moves.specs.Acting.{AfterHearing, heard_by}
-use Rattle.world_moves.specs.Bag.{settle_at}
-use Rattle.world_moves.specs.Ends.{EndStep, client_step}
+use Rattle.world_moves.specs.declared.links.EndId.TheVariants.{Controller}
 use Rattle.domain_world.specs.Accepting.Answered.{IsItsWay, MarksHaveTheirWay}
-use Rattle.domain_world.specs.Past.{Delivery, answers_of, asked_in_turn, asking_by, asking_marks, asking_notes, at_controller, beside_mark, controller_asked, forward_mark, heard_marks, is_sent_on, mark_or, marks_by, marks_of, note_at, note_given, note_messages, past, sent_at, still_waits}
+use Rattle.domain_world.specs.Past.{Delivery, answers_of, asked_in_turn, asking_by, asking_marks, asking_notes, at_controller, beside_mark, controller_asked, forward_mark, heard_marks, is_sent_on, mark_or, marks_by, marks_of, past, still_waits}
 use Rattle.wire_base.proofs.ListLaws.{got_nothing, some_is}
-use Rattle.world_moves.proofs.LinkFrameLaws.{StaysOnLinks, actions_stay, quiet_stays}
-use Rattle.world_moves.specs.Plain.{NothingSeals, plain_controller_step as controller_step, plain_member_step as member_step}
-use Rattle.domain_world.proofs.Frames.BagFrameLaws.{IsMarked, IsOfUnit, IsServer, MarksStay, OfEachUnit, UnitFact, bag_at, each_more, marked_by, marked_more, member_marks, others_marked, settled_each}
+use Rattle.world_moves.specs.Plain.{NothingSeals, plain_controller_step as controller_step}
+use Rattle.domain_world.proofs.Frames.BagFrameLaws.{IsOfUnit, MarksStay, UnitFact, member_marks}
+use Rattle.domain_world.proofs.Frames.EveryMarkLaws.{EveryMarks, every_marked}
+use Rattle.domain_world.proofs.Frames.EveryStepLaws.{stepped}
 use Rattle.domain_world.proofs.Frames.FrameLaws.{Fact}
-use Rattle.domain_world.proofs.Frames.EveryStepLaws.{act_plain as hear_and_act, every_acted, stepped}
-use Rattle.domain_world.proofs.Moves.MarkPlaceLaws.{settled_length}
-use Rattle.domain_world.proofs.Moves.MarkedLaws.{heard_length}
-use Rattle.domain_world.proofs.Frames.MoveFrameLaws.{HoldsAfterMoves}
-use Rattle.domain_world.proofs.Frames.PlainFrameLaws.{moves_keep_plain}
-use Rattle.domain_world.proofs.Frames.MoveKeepLaws.{AtWork, KeepsMovesBy, MoveFact, NoSide, every}
-use Rattle.domain_world.proofs.Moves.OpenMadeLaws.{IsMore, IsOnSide, MoreOf, goes_on, no_more, side_of}
-use Rattle.domain_world.proofs.Frames.TurnFrameLaws.{asked_book, asked_marks, turns_sent}
+use Rattle.domain_world.proofs.Frames.MoveKeepLaws.{NoSide}
+use Rattle.domain_world.proofs.Frames.TurnFrameLaws.{asked_marks}
 
 -- ---- what each end marks
 
@@ -109,9 +99,9 @@ opened_way : (unit : Option ℕ) (channel : ChannelIdentity) (number : ℕ) → 
 opened_way None channel number = tt
 opened_way (Some unit) channel number = refl
 
-opening_way : (channel : Option ChannelIdentity) (w : Where) (number : ℕ) → IsReply (opening channel w number).mark
-opening_way None w number = tt
-opening_way (Some channel) w number = opened_way (unit_in w.source) channel number
+opening_way : (channel : Option ChannelIdentity) (w : Where) (number kind : ℕ) → IsReply (opening channel w number kind).mark
+opening_way None w number kind = tt
+opening_way (Some channel) w number kind = opened_way (unit_in w.source) channel number
 
 reply_way : (unit : Option ℕ) (channel : ChannelIdentity) (number : ℕ) → IsReply (reply_mark unit channel number)
 reply_way None channel number = tt
@@ -127,7 +117,7 @@ judging_way true j = passing_way (channel_in j.controller (computer_named j.aske
 
 call_way : (c : ControllerCall) (line : Line) (w : Where) (before : Desk) (after : Option Desk) → IsReply (call_answer c line w before after).mark
 call_way (call.Challenge c) line w before after = tt
-call_way (call.Authenticate c) line w before after = opening_way (opened_by w.controller c before) w line.call
+call_way (call.Authenticate c) line w before after = opening_way (opened_by w.controller c before) w line.call c.channel
 call_way (call.Judged c) line w before after = judging_way (has_passed (judging_of w line c before after).how) (judging_of w line c before after)
 
 heard_way : (what : Heard) (w : Where) (before : Desk) (after : Option Desk) → IsReply (heard_answer what w before after).mark
@@ -150,7 +140,7 @@ trust_heard_way (heard.Close cause) w before after = tt
 trust_heard_way (heard.Answer bytes talk) w before after = tt
 trust_heard_way (heard.Waits talk) w before after = tt
 trust_heard_way (heard.Asked line (call.Challenge c) talk) w before after = tt
-trust_heard_way (heard.Asked line (call.Authenticate c) talk) w before after = opening_way (opened_by w.controller c before) w line.call
+trust_heard_way (heard.Asked line (call.Authenticate c) talk) w before after = opening_way (opened_by w.controller c before) w line.call c.channel
 trust_heard_way (heard.Asked line (call.Judged c) talk) w before after = by_way_of (judging_of w line c before after).how (judging_of w line c before after)
 
 pub if_marked : (P : Mark → Type 0) (sends : Bool) (mark : Mark) (more : List Mark) → P mark → AllByRecursion P more → AllByRecursion P (mark_if sends mark ++ more)
@@ -243,7 +233,7 @@ askings_way link beside ways [] marks each = λ place unit mark there marked. ab
 askings_way link beside ways (unit ∷ units) marks each =
     asking_way (is_sent_on link false unit) link beside unit units marks refl (ways unit) each (λ rest all. askings_way link beside ways units rest all)
 
-notes_way : (controller : ℕ) (units : List (ServedUnit TurnWork TurnTalk)) → AllByRecursion IsRequest (turn_marks (map (asking_note controller) units))
+pub notes_way : (controller : ℕ) (units : List (ServedUnit TurnWork TurnTalk)) → AllByRecursion IsRequest (turn_marks (map (asking_note controller) units))
 notes_way controller [] = tt
 notes_way controller (unit ∷ units) =
     let note : TurnNote = asking_note controller unit in
@@ -269,144 +259,24 @@ marks_way true at c w piece s after forwards units =
 abbrev pub OfUnit : UnitFact (Unit {0})
 OfUnit x number unit mark = IsItsWay unit.back mark
 
-abbrev AreTheirWay : List BagUnit → List Sent → Type 0
-AreTheirWay bag sent = OfEachUnit OfUnit tt bag sent
-
--- where bytes come, each unit has its mark, unless a client is at that side of the link
-abbrev AllOn : Option Delivery → List Route → List BagUnit → List Sent → Type 0
-AllOn None links bag sent = Unit {0}
-AllOn (Some w) links bag sent = (end : EndId) → IsOnSide links w.link w.back end → IsServer end → length sent ≡ length bag
-
-record GoTheirWay (on : Option Delivery) (to : Option State) (links : List Route) (bag : List BagUnit) (sent : List Sent) : Type 0 where
-  each : AreTheirWay (bag_at to bag) sent
-  all : AllOn on links (bag_at to bag) sent
-
-abbrev Ways : MoveFact
-Ways n p s given b = GoTheirWay p.on p.to s.links s.bag b.sent
-
-all_on : (on : Option Delivery) (links : List Route) (bag : List BagUnit) (sent : List Sent) → length sent ≡ length bag → AllOn on links bag sent
-all_on None links bag sent all = tt
-all_on (Some w) links bag sent all = λ end there server. all
-
-all_settled : (on : Option Delivery) (number : ℕ) (links : List Route) (bag : List BagUnit) (sent : List Sent) → AllOn on links bag sent → AllOn on links (settle_at number bag) sent
-all_settled None number links bag sent all = tt
-all_settled (Some w) number links bag sent all = λ end there server. all end there server ∙ sym (settled_length number bag)
-
--- the units that an end at work adds
-record Adds (end : EndId) (step : EndStep) (s : State) : Type 0 where
-  units : List BagUnit
-  is : (stepped end step s).bag ≡ s.bag ++ units
-
-end_adds : (end : EndId) (step : EndStep) (s : State) → Adds end step s
-end_adds end step s =
-    let heard : AfterHearing = heard_by step s in
-    let more : IsMore s.links s.bag (stepped end step s).links (stepped end step s).bag =
-    actions_stay (MoreOf s.links s.bag) (goes_on s.links s.bag) end heard.actions heard.state (no_more s.links s.bag) in
-    record { units = more.units; is = more.is }
-
-abbrev EndWay : EndId → State → Book → Type 0
-EndWay end after now = AreTheirWay after.bag now.sent × (IsServer end → length now.sent ≡ length after.bag)
-
--- a server's new units get marks of that way
-server_ways : (end : EndId) (step : EndStep) (s : State) (sent : List Sent) (link : ℕ) (back : Bool) (marks : List Mark) (at : ℕ) → AllByRecursion (IsItsWay back) marks → AreTheirWay s.bag sent →
-    length sent ≡ length s.bag → IsMarked OfUnit tt (stepped end step s).bag (sent ++ map (sent_at at) (marks_of link back (drop (length s.bag) (stepped end step s).bag) marks))
-server_ways end step s sent link back marks at each ways all =
-    let adds : Adds end step s = end_adds end step s in
-    marked_more OfUnit tt tt s (stepped end step s).bag sent link back marks at adds.units adds.is (λ number unit one there mark way. way)
-    (units_way back link adds.units marks each) (record { each = ways; all = all })
-
-end_ways : (end : EndId) (w : Delivery) (piece : List ℕ) (s : State) (b : Book) → AreTheirWay s.bag b.sent → (IsServer end → length b.sent ≡ length s.bag) →
-    let after : State = (hear_and_act end (event.Bytes w.link piece) s).state in EndWay end after (note_at (Some end) w piece s after b)
-end_ways end w piece s b each all =
-    every_acted (λ (one : EndId) (step : EndStep) (after : State) (now : Book). (IsServer one → length b.sent ≡ length s.bag) → EndWay one after now) w piece s b
-    (λ one even. (each, even))
-    (λ at c is even.
-    let step : EndStep = controller_step (Some c) at (event.Bytes w.link piece) s.moment s.ends s.chances in
-    let on : Bool = is_on w.link c.trusting.dialling in
-    let adds : Adds (Controller at) step s = end_adds (Controller at) step s in
-    let after : State = stepped (Controller at) step s in
-    let marked = marked_by OfUnit tt tt s after.bag b.sent (λ units. heard_marks on at c w piece s after b.forwards units) w.at adds.units adds.is
-    (λ number unit one there mark way. way) (heard_length on at c w piece s after b.forwards adds.units) (marks_way on at c w piece s after b.forwards adds.units)
-    (record { each = each; all = even refl }) in (marked.each, (λ server. marked.all)))
-    (λ at m is even.
-    let step : EndStep = member_step (Some m) at (event.Bytes w.link piece) s.moment s.ends s.chances in
-    let after : State = stepped (Member at) step s in
-    let units : List (ServedUnit AtTurn TurnTalk) = turn_units m w.link piece s.moment s.chances.left in
-    let old : List Sent = (asked_book (OfMember at) w units s after (note_messages at m w piece s b)).sent in
-    let marked = server_ways (Member at) step s b.sent w.link false (member_marks at m w piece s) w.at (turns_way (OfMember at) s units) each (even refl) in
-    subst (λ (sent : List Sent).
-    let now : List Sent = sent ++ map (sent_at w.at) (marks_of w.link false (drop (length s.bag) after.bag) (member_marks at m w piece s)) in
-    AreTheirWay after.bag now × (IsServer (Member at) → length now ≡ length after.bag)) (sym (turns_sent (OfMember at) w units s after (note_messages at m w piece s b)))
-    (marked.each, (λ server. marked.all)))
-    (λ at c is even.
-    let step : EndStep = client_step (Some c) at (event.Bytes w.link piece) s.moment s.ends s.chances in
-    let adds : Adds (Client at) step s = end_adds (Client at) step s in (
-      each_more OfUnit tt tt s.bag adds.units (stepped (Client at) step s).bag b.sent adds.is (λ number unit one there mark way. way) each,
-      (λ server. absurd (let never : true ≡ false = server in cc)),
-    )) end all
-
--- two ends at one side of a link are one
-one_end : (one other : EndId) (links : List Route) (link : ℕ) (back : Bool) → IsOnSide links link back one → IsOnSide links link back other → one ≡ other
-one_end one other links link back first second =
-    let found : Some first.route ≡ Some second.route = sym first.made ∙ second.made in
-    let route : first.route ≡ second.route = cc in
-    let both : Some one ≡ Some other = sym first.side ∙ ap (λ (r : Route). side_of back r) route ∙ second.side in cc
-
--- a unit more
-sends_on : (sent : List Sent) (on : Option Delivery) (to : Option State) → AtWork on to → StaysOnLinks (λ links map bag. GoTheirWay on to links bag sent)
-sends_on sent None None work = record {
-  sends = λ unit links map bag is ways. record {
-    each = each_more OfUnit tt tt bag (unit ∷ []) (bag ++ unit ∷ []) sent refl (λ number here one there mark way. way) ways.each;
-    all = tt;
-  };
-  shuts = λ link links map bag ways. ways;
+ways_hold : EveryMarks (λ (b : Book). tt) OfUnit NoSide
+ways_hold = record {
+  settles = λ x number unit mark way. way;
+  grows = λ n end w piece s after given b number unit mark side way. way;
+  given = λ at given after b number unit mark way. way;
+  controllers = λ n c at w piece s given b is side even units more on_links place unit mark there marked.
+      let after : State = stepped (Controller at) (controller_step (Some c) at (event.Bytes w.link piece) s.moment s.ends s.chances) s in
+      marks_way (is_on w.link c.trusting.dialling) at c w piece s after b.forwards units place unit mark there marked;
+  members = λ n m at w piece s given b is side even units more place unit mark there marked.
+      units_way false w.link units (member_marks at m w piece s)
+      (turns_way (OfMember at) s (turn_units m w.link piece s.moment s.chances.left)) place unit mark there marked;
+  others = λ n at on s given b number unit side. beside_way b.forwards s unit;
 }
-sends_on sent None (Some after) work =
-    record { sends = λ unit links map bag is ways. record { each = ways.each; all = tt }; shuts = λ link links map bag ways. ways }
-sends_on sent (Some w) None work = absurd work
-sends_on sent (Some w) (Some after) work =
-    record { sends = λ unit links map bag is ways. record { each = ways.each; all = ways.all }; shuts = λ link links map bag ways. ways }
-
-ways_keep : KeepsMovesBy every ⊥ NoSide Ways
-ways_keep = record {
-  closes = λ n p end link s given b work none ways. ways;
-  opens = λ n at dial route s given b out none ways. record { each = ways.each; all = tt };
-  dialled = λ n at end link s given b side none ways. ways;
-  fails = λ n at end s b none ways. ways;
-  begins = λ n at client plan s b is none ways. ways;
-  comes = λ n end w piece s given b side came bytes none ways.
-      let heard = end_ways end w piece s b ways.each (λ server. ways.all end side server) in
-      record {
-        each = heard.0;
-        all = λ other there server. heard.1 (subst IsServer (one_end other end s.links w.link w.back there side) server);
-      };
-  reaches = λ n w s given b none ways. record { each = ways.each; all = ways.all };
-  acts = λ n p end what s given b work none ways.
-      quiet_stays (λ links map bag. GoTheirWay p.on p.to links bag b.sent) (sends_on b.sent p.on p.to work) end what s ways;
-  shuts = λ n p link s given b work none ways. ways;
-  answers = λ n at dial link there s given b is none ways. ways;
-  forgets = λ n at end s b none ways. ways;
-  settles = λ n at on number s b none ways. record {
-    each = settled_each OfUnit tt (λ k unit mark way. way) number s.bag b.sent ways.each;
-    all = all_settled on number s.links s.bag b.sent ways.all;
-  };
-  dials = λ n at dial s b is none ways. ways;
-  renews = λ n at end s b none ways. ways;
-  changes = λ n at member secret s b formed none ways. ways;
-  ticks = λ n at more s b none ways. ways;
-  over = λ n at on next s given b none ways.
-      let marked = others_marked OfUnit tt (λ unit. beside_mark b.forwards s unit) (λ number unit. beside_way b.forwards s unit) s.bag b.sent at ways.each in
-      record { each = marked.each; all = all_on next s.links s.bag (note_given at given s b).sent marked.all };
-}
-
-first_ways : (on : Option Delivery) → GoTheirWay on None [] [] []
-first_ways on = record { each = λ number one there. absurd (got_nothing number one there); all = all_on on [] [] [] refl }
 
 -- in every run
 pub marks_have_their_way : (plan : Plan) (moves : List Move) → NothingSeals plan → MarksHaveTheirWay (past plan moves)
 marks_have_their_way plan moves nothing number unit one there marked =
-    let after : HoldsAfterMoves ⊥ Ways plan moves = moves_keep_plain ⊥ Ways ways_keep plan moves nothing (λ none. absurd none) first_ways in
-    let is : IsOfUnit OfUnit tt (past plan moves).world.state.bag number one.mark = after.holds.each number one marked in
+    let is : IsOfUnit OfUnit tt (past plan moves).world.state.bag number one.mark = every_marked (λ (b : Book). tt) OfUnit ways_hold plan moves nothing number one marked in
     subst (λ (u : BagUnit). IsItsWay u.back one.mark) (some_is is.unit unit (sym is.there ∙ there)) is.holds
 
 -- ---- beside another fact of marks, which one frame carries with it

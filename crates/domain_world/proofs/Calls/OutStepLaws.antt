@@ -78,13 +78,20 @@ pub record IsOutIn (units : List Sent) (member : ℕ) (pending : Pending) (logon
   pub stands : standing ≡ Some channel
   pub mark : unit.mark ≡ Calling channel pending.number timestamp
 
--- where the turn waits for the answer to a Logon call, one of the messages has its call out
-abbrev pub OutFor : List Sent → List MessageTaken → ℕ → ℕ → Option Running → Type 0
-OutFor units messages controller member None = Unit {0}
-OutFor units messages controller member (Some running) =
+-- where the turn waits for the answer to a Logon call, it holds of that turn, of the logon that is kept for it, and of
+-- the requester
+abbrev pub OutBy : (Pending → Logon → Requester → Type 0) → Option Running → Type 0
+OutBy P None = Unit {0}
+OutBy P (Some running) =
     (pending : Pending) (logon : Logon) → running.logons.channel.turn ≡ Some pending → pending.step ≡ step.Reply question.Logon →
-    lookup same_number pending.place running.logons.asked ≡ Some logon →
-    OneOf (IsOutIn units member pending logon (standing_channel controller running.logons.channel)) messages
+    lookup same_number pending.place running.logons.asked ≡ Some logon → P pending logon running.logons.channel
+
+-- one of the messages has its call out
+abbrev pub HasOut : List Sent → List MessageTaken → ℕ → ℕ → Pending → Logon → Requester → Type 0
+HasOut units messages controller member pending logon c = OneOf (IsOutIn units member pending logon (standing_channel controller c)) messages
+
+abbrev pub OutFor : List Sent → List MessageTaken → ℕ → ℕ → Option Running → Type 0
+OutFor units messages controller member r = OutBy (HasOut units messages controller member) r
 
 -- The member asks for what it keeps, and took the message of each logon. It dialled the link of its turn, accepted the
 -- links whose challenge hasn't served, and a Logon call that is out is that of its message.
@@ -101,6 +108,10 @@ pub record StaysOut (old new : Requester) (pending : Pending) : Type 0 where
   pub turn : old.turn ≡ Some pending
   pub standing : new.standing ≡ old.standing
   pub caller : new.caller ≡ old.caller
+
+-- it holds on while the turn is out, on the same channel
+abbrev pub StaysBy : (Pending → Logon → Requester → Type 0) → Type 0
+StaysBy P = (old new : Requester) (pending : Pending) (logon : Logon) → StaysOut old new pending → P pending logon old → P pending logon new
 
 asked_out : (full : Bool) (s : Requester) (info : NetworkInfo) (pending : Pending) (new : Requester) → StaysOut (ask_by full s info).state new pending → StaysOut s new pending
 asked_out true s info pending new stays = record { turn = stays.turn; standing = stays.standing; caller = stays.caller }
@@ -127,7 +138,7 @@ begun_waits (standing.Open o) None caller info timestamp challenge q is = let x 
 begun_waits (standing.Open o) (Some next) caller info timestamp challenge q is = let x = is in cc
 
 -- a turn that starts waits for the answer to its bind
-start_out : (turn : Option Pending) (logons : List Waiting) (s : Requester) (timestamp : ℕ) (challenge : List ℕ) (pending : Pending) (q : Question) → can_start turn logons ≡ true →
+pub start_out : (turn : Option Pending) (logons : List Waiting) (s : Requester) (timestamp : ℕ) (challenge : List ℕ) (pending : Pending) (q : Question) → can_start turn logons ≡ true →
     (start_by turn logons s timestamp challenge).state.turn ≡ Some pending → pending.step ≡ step.Reply q → ⊥
 start_out (Some p) logons s timestamp challenge pending q can is reply = let x = can in cc
 start_out None [] s timestamp challenge pending q can is reply = let x = can in cc
@@ -221,21 +232,13 @@ dials_so Own Later so (event.Dialled link) dials = so link dials
 dials_so Own Later so event.DialFailed dials = tt
 dials_so Own Later so event.Stop dials = tt
 
-abbrev Any : ℕ → Type 0
+abbrev pub Any : ℕ → Type 0
 Any number = Unit {0}
 
-abbrev IfDialledIn : (ℕ → Type 0) → Option Running → Type 0
-IfDialledIn Own None = Unit {0}
-IfDialledIn Own (Some running) = IfDialled Own running.dialling
-
-dialled_in : (Fits : ℕ → Logon → Type 0) (Own : ℕ → Type 0) (r : Option Running) → KeptIn Fits Own r → IfDialledIn Own r
-dialled_in Fits Own None kept = tt
-dialled_in Fits Own (Some running) kept = kept.1
-
-any_dialled : (Own : ℕ → Type 0) (how : Dialling) → IfDialled Own how → IfDialled Any how
-any_dialled Own dialling.Nothing own = tt
-any_dialled Own (dialling.Waits turn frames) own = tt
-any_dialled Own (dialling.On number said) own = tt
+any_dialled : (how : Dialling) → IfDialled Any how
+any_dialled dialling.Nothing = tt
+any_dialled (dialling.Waits turn frames) = tt
+any_dialled (dialling.On number said) = tt
 
 -- so many moves are made
 abbrev at_now : ℕ → MessageTaken → MessageTaken
@@ -299,17 +302,19 @@ same_channel controller old new pending stays =
     ap (λ (how : Standing). stands_in controller old.caller.computer how) (sym stays.standing)
     ∙ ap (λ (caller : Caller). stands_in controller caller.computer new.standing) (sym stays.caller)
 
+pub has_out : (units : List Sent) (messages : List MessageTaken) (controller member : ℕ) → StaysBy (HasOut units messages controller member)
+has_out units messages controller member = λ old new pending logon stays one.
+    subst (λ (standing : Option ChannelIdentity). OneOf (IsOutIn units member pending logon standing) messages) (same_channel controller old new pending stays) one
+
 -- where the logon of the turn stays kept
-out_by : (units : List Sent) (messages : List MessageTaken) (controller member : ℕ) (part : Result (Part DialWork) StepRefused) (running : Running) (first : Result (Part DialWork) StepRefused) (now : ℕ)
-    (left : List (List ℕ)) → StepsIfTaken first (ComesCalmly running.logons.channel) now part → OutFor units messages controller member (Some running) → KeptBack part running →
-    OutFor units messages controller member (step_by actions_in state_in halted_state left part).state.running
-out_by units messages controller member (Err why) running first now left steps out back = tt
-out_by units messages controller member (Ok part) running first now left steps out back = λ pending logon turn reply there.
+out_by : (P : Pending → Logon → Requester → Type 0) → StaysBy P → (part : Result (Part DialWork) StepRefused) (running : Running) (first : Result (Part DialWork) StepRefused) (now : ℕ)
+    (left : List (List ℕ)) → StepsIfTaken first (ComesCalmly running.logons.channel) now part → OutBy P (Some running) → KeptBack part running →
+    OutBy P (step_by actions_in state_in halted_state left part).state.running
+out_by P stays (Err why) running first now left steps out back = tt
+out_by P stays (Ok part) running first now left steps out back = λ pending logon turn reply there.
     let so : OutSteps running.logons.channel first part.value.0.logons.channel pending =
     out_steps running.logons.channel first now part.value.0.logons.channel part.left pending question.Logon steps turn reply in
-    subst (λ (standing : Option ChannelIdentity). OneOf (IsOutIn units member pending logon standing) messages)
-    (same_channel controller running.logons.channel part.value.0.logons.channel pending so.stays)
-    (out pending logon so.stays.turn reply (back pending logon part so.stays.turn refl there))
+    stays running.logons.channel part.value.0.logons.channel pending logon so.stays (out pending logon so.stays.turn reply (back pending logon part so.stays.turn refl there))
 
 some_logon : (found : Option Logon) (one other : Logon) → found ≡ Some one → one ≡ other → found ≡ Some other
 some_logon found one other is same = is ∙ ap (λ (l : Logon). Some l) same
@@ -325,15 +330,14 @@ quiet_back part running left asks keeps pending logon after turn is there =
     let same : logon ≡ one.logon = each_found (Only pending.place one.logon) pending.place after.value.0.logons.asked logon there all.0 refl in
     some_logon (lookup same_number pending.place running.logons.asked) one.logon logon one.kept (sym same)
 
-quiet_out : (units : List Sent) (messages : List MessageTaken) (controller member : ℕ) (Own : ℕ → Type 0) (r : Option Running) (what : Event) (now : ℕ) (left : List (List ℕ)) →
-    Dials Own what → IfDialledIn Own r → AsksUnlessStopped r → OutFor units messages controller member r →
-    OutFor units messages controller member (step_of (record { running = r }) what now left).state.running
-quiet_out units messages controller member Own None what now left dials own asks out = tt
-quiet_out units messages controller member Own (Some running) what now left dials own asks out =
-    out_by units messages controller member (event_part running what now left) running (by_event what running.dialling (work_of running) left) now left
-    (channel_steps.other running what now left (not_bytes Own what running.dialling dials)) out
+pub quiet_out : (P : Pending → Logon → Requester → Type 0) → StaysBy P → (r : Option Running) (what : Event) (now : ℕ) (left : List (List ℕ)) → Dials Any what → AsksUnlessStopped r →
+    OutBy P r → OutBy P (step_of (record { running = r }) what now left).state.running
+quiet_out P stays None what now left dials asks out = tt
+quiet_out P stays (Some running) what now left dials asks out =
+    out_by P stays (event_part running what now left) running (by_event what running.dialling (work_of running) left) now left
+    (channel_steps.other running what now left (not_bytes Any what running.dialling dials)) out
     (quiet_back (event_part running what now left) running left asks
-    (λ at kept all. step_keeps (Only at kept) Any what (record { running = Some running }) now left (dials_so Own Any (λ number own. tt) what dials) (all, any_dialled Own running.dialling own)))
+    (λ at kept all. step_keeps (Only at kept) Any what (record { running = Some running }) now left dials (all, any_dialled running.dialling)))
 
 -- a step at which no bytes come
 pub quiet_holds : (links : List Route) (units : List Sent) (messages : List MessageTaken) (controller member : ℕ) (r : Option Running) (what : Event) (now : ℕ) (left : List (List ℕ)) →
@@ -343,8 +347,8 @@ quiet_holds links units messages controller member r what now left dials opens h
   asks = step_asks (record { running = r }) what now left holds.asks;
   kept = step_keeps (HasOne member messages) (λ number. IsDialledBy links member number) what (record { running = r }) now left dials holds.kept;
   accepts = step_known (λ number p. IsAcceptedBy links member number) what (record { running = r }) now left opens holds.accepts;
-  out = quiet_out units messages controller member (λ number. IsDialledBy links member number) r what now left dials
-      (dialled_in (HasOne member messages) (λ number. IsDialledBy links member number) r holds.kept) holds.asks holds.out;
+  out = quiet_out (HasOut units messages controller member) (has_out units messages controller member) r what now left
+      (dials_so (λ number. IsDialledBy links member number) Any (λ number own. tt) what dials) holds.asks holds.out;
 }
 
 -- ---- bytes come, but not on the link of the turn
@@ -373,12 +377,11 @@ bytes_back running number piece now left other asks pending logon after turn is 
     (bytes_lead pending one.logon running number piece now left other (record { coherent = asks.coherent; turn = turn; kept = one.kept })) in
     one.kept ∙ sym leads.kept ∙ there
 
-bytes_out : (units : List Sent) (messages : List MessageTaken) (controller member : ℕ) (r : Option Running) (number : ℕ) (piece : List ℕ) (now : ℕ) (left : List (List ℕ)) →
-    IsOther r number → AsksUnlessStopped r → OutFor units messages controller member r →
-    OutFor units messages controller member (step_of (record { running = r }) (event.Bytes number piece) now left).state.running
-bytes_out units messages controller member None number piece now left other asks out = tt
-bytes_out units messages controller member (Some running) number piece now left other asks out =
-    out_by units messages controller member (event_part running (event.Bytes number piece) now left) running (by_event (event.Bytes number piece) running.dialling (work_of running) left) now left
+pub bytes_out : (P : Pending → Logon → Requester → Type 0) → StaysBy P → (r : Option Running) (number : ℕ) (piece : List ℕ) (now : ℕ) (left : List (List ℕ)) → IsOther r number →
+    AsksUnlessStopped r → OutBy P r → OutBy P (step_of (record { running = r }) (event.Bytes number piece) now left).state.running
+bytes_out P stays None number piece now left other asks out = tt
+bytes_out P stays (Some running) number piece now left other asks out =
+    out_by P stays (event_part running (event.Bytes number piece) now left) running (by_event (event.Bytes number piece) running.dialling (work_of running) left) now left
     (channel_steps.other running (event.Bytes number piece) now left (heard_not running.dialling number piece other)) out (bytes_back running number piece now left other asks)
 
 -- what is kept is of the messages, with those that are written down then
@@ -416,5 +419,5 @@ other_holds links units messages controller w r piece now left other holds =
       accepts = bytes_accepts links w r piece now left holds.accepts;
       out = out_known units units messages (messages ++ new) controller w.member (step_of (record { running = r }) (event.Bytes w.link piece) now left).state.running
           (λ pending logon standing. one_before (IsOutIn units w.member pending logon standing) messages new)
-          (bytes_out units messages controller w.member r w.link piece now left other holds.asks holds.out);
+          (bytes_out (HasOut units messages controller w.member) (has_out units messages controller w.member) r w.link piece now left other holds.asks holds.out);
     }

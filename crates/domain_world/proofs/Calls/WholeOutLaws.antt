@@ -78,13 +78,13 @@ module _ (controller : ℕ) (c : Requester) where
   Case h pending =
       StaysSo c (act h c).state (taking_note (Some (act h c)) controller c) ⊎ CallsOut controller (act h c).state (taking_note (Some (act h c)) controller c) pending
 
-  settled_none : (j : Judgement) (pending : Pending) → (settle j c).state.turn ≡ Some pending → ⊥
+  pub settled_none : (j : Judgement) (pending : Pending) → (settle j c).state.turn ≡ Some pending → ⊥
   settled_none (judgement.Half client server) pending out = none_out pending out
   settled_none (judgement.Opened o) pending out = none_out pending out
   settled_none (judgement.Answer o v) pending out = none_out pending out
   settled_none (judgement.Drop cause) pending out = none_out pending out
 
-  set_none : (judged : SetOutcome) (pending : Pending) → (settle_set judged c).state.turn ≡ Some pending → ⊥
+  pub set_none : (judged : SetOutcome) (pending : Pending) → (settle_set judged c).state.turn ≡ Some pending → ⊥
   set_none (Ok o) pending out = none_out pending out
   set_none (Err cause) pending out = none_out pending out
 
@@ -116,7 +116,7 @@ module _ (controller : ℕ) (c : Requester) where
       let same : asking ≡ pending = (let x = out in cc) in
       subst (λ (p : Pending). Case (hearing.Next question.Logon frames) p) same (logon_case c.standing frames refl coherent.matches)
 
-  acted_case : (h : Hearing) (pending : Pending) → (act h c).state.turn ≡ Some pending → pending.step ≡ step.Reply question.Logon → IsCoherent (act h c).state → Case h pending
+  pub acted_case : (h : Hearing) (pending : Pending) → (act h c).state.turn ≡ Some pending → pending.step ≡ step.Reply question.Logon → IsCoherent (act h c).state → Case h pending
   acted_case hearing.Skip pending out reply coherent = inl (record { same = refl; none = refl })
   acted_case (hearing.Next q frames) pending out reply coherent = next_case q frames pending out reply coherent
   acted_case (hearing.Reply q r) pending out reply coherent = absurd (settled_none (judge q r c.standing c.caller.secret) pending out)

@@ -380,7 +380,7 @@ module _ (plan : Plan) (p : Arrival) (s : State) (k : ℕ) (b : Book) (able : Is
             let d : Desk = desk_in_turn t v.computers in
             let then_so : Option Desk = work_after (by_call (served_call call) (turn_line t.link v.next) (bound_talk None turn_agreed) t.name moment d left) in
             let expects : Expects d channel client server = record { account = machine; found = found_then; secret = secret; pair = pending } in
-            let one : (unit : ℕ) → answer_in_turn s t v.next call v.computers k unit left moment ≡ opening (Some named) (where_in_turn s t v.next call v.computers k unit) v.next =
+            let one : (unit : ℕ) → answer_in_turn s t v.next call v.computers k unit left moment ≡ opening (Some named) (where_in_turn s t v.next call v.computers k unit) v.next p.meeting.caller.kind =
             λ unit. channels_are_named_alike.openings.opens channel client server (where_in_turn s t v.next call v.computers k unit) (turn_line t.link v.next) d then_so expects in
             let called : Called s t v.next call v.computers k count left moment b =
             call_comes s t (after v.next) v.next (step.Reply question.Authenticate) call v.computers left left moment count count _ _ (between_on (Second client server) is) is.next_below can steps shows k b fine
@@ -402,7 +402,7 @@ module _ (plan : Plan) (p : Arrival) (s : State) (k : ℕ) (b : Book) (able : Is
             let told : ToldProof v.table p.name v.computers (length v.links) moment v.next p.meeting.caller client server left =
             controllers_answer.proof v.table p.name v.computers (length v.links) moment v.next p.meeting.caller client server left is.next_below can in
             let one : (unit : ℕ) → answer_in_turn s t v.next call v.computers k unit left moment ≡ plain =
-            λ unit. ap (λ (channel : Option ChannelIdentity). opening channel (where_in_turn s t v.next call v.computers k unit) v.next)
+            λ unit. ap (λ (channel : Option ChannelIdentity). opening channel (where_in_turn s t v.next call v.computers k unit) v.next p.meeting.caller.kind)
             (none_opened t.at_controller (auth_value p.meeting.caller client server) (desk_in_turn t v.computers)
             (of_table p v (λ (t : AccountTable). account_for t (auth_value p.meeting.caller client server) ≡ None) is_planned none)) in
             record {

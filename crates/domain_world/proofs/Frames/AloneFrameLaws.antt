@@ -35,7 +35,7 @@ use Rattle.world_moves.specs.Alone.{AsksNobody, IsPlainAlone, hear_alone}
 use Rattle.world_moves.specs.Ends.{EndStep, actions_by}
 use Rattle.world_moves.specs.Links.{acceptor_of, dialler_of}
 use Rattle.world_moves.specs.Moving.{begun, changed, with_link}
-use Rattle.world_moves.specs.Plain.{IsPlain, hear_plain as hear, plain_world, renewed_plain as renewed}
+use Rattle.world_moves.specs.Plain.{IsPlain, hear_plain as hear, plain_world}
 use Rattle.world_moves.specs.World.{World, first_world, happens, run}
 use Rattle.domain_world.specs.Past.{Delivery, book}
 use Rattle.wire_base.proofs.ListLaws.{all_weaker, at_end, got_nothing}

@@ -1,6 +1,6 @@
 -- What a step of an end leaves of the challenges in every world, whether something seals there or not: a rest of those
 -- that were left. It serves `draws_of_runs_differ` and `what_is_not_handed_on_runs_alone`.
-use Rattle.std.proofs.Common.{◌≡◌, ℕ, Bool, true, false, List, [], ◌∷◌, ◌++◌, Option, Some, None, Result, Ok, Err, slice_get, refl}
+use Rattle.std.proofs.Common.{ℕ, Bool, true, false, List, ◌++◌, Option, Some, None, Result, Ok, Err}
 use Rattle.wire_base.specs.Maps.{lookup, same_number, take_out}
 use Rattle.outside.specs.Drawing.{Drawing, IsRest}
 use Rattle.outside.specs.Machine.{Part, left_by, step_by, then_part}
@@ -14,7 +14,7 @@ use Rattle.end_links.specs.Links.{LinkState}
 use Rattle.end_links.specs.Serving.{ServerLeavesRest, served_cut}
 use Rattle.end_links.proofs.ServingLaws.{units_served}
 use Rattle.account_table.specs.AccountTable.{AccountTable}
-use Rattle.channel_turns.specs.SealedTurns.{after_sealed_units, sealed_hear_by, sealed_hear_if, sealed_hear_on, sealed_link_hears, sealed_turn_server, sealed_work}
+use Rattle.channel_turns.specs.SealedTurns.{after_sealed_units, sealed_hear_by, sealed_hear_if, sealed_link_hears, sealed_turn_server, sealed_work}
 use Rattle.channel_turns.specs.Turning.{is_on}
 use Rattle.channel_turns.specs.declared.sealed_turns.SealedWork.{SealedWork}
 use Rattle.channel_turns.specs.declared.state.Dialling.{Dialling}
@@ -23,7 +23,7 @@ use Rattle.channel_turns.specs.declared.state.TurnTalk.{TurnTalk}
 use Rattle.channel_turns.specs.declared.state.Turning.{Turning}
 use Rattle.domain_controller.specs.Forwarding.{trust_desk}
 use Rattle.domain_controller.specs.SealServing.{SealDesk, seal_server}
-use Rattle.domain_controller.specs.SealStep.{SealParts, SealStepPart, by_seal_event, seal_put_open, seal_serve_bytes, seal_serve_on, seal_state_after, seal_step_of, seal_step_on, seal_step_part, step_with as seal_step_with}
+use Rattle.domain_controller.specs.SealStep.{SealParts, SealStepPart, by_seal_event, seal_put_open, seal_serve_bytes, seal_serve_on, seal_state_after, seal_step_on, seal_step_part, step_with as seal_step_with}
 use Rattle.domain_controller.specs.State.{State as ControllerState}
 use Rattle.domain_controller.specs.Step.{LinkMap}
 use Rattle.domain_controller.specs.TrustStep.{link_with, next_turn, parts_of, trust_halted}
@@ -34,7 +34,7 @@ use Rattle.domain_controller.specs.declared.trusting.Parts.{Parts}
 use Rattle.domain_controller.proofs.SealRestLaws.{seal_server_leaves}
 use Rattle.domain_controller.proofs.TrustStepLaws.{turn_rest}
 use Rattle.member_server.specs.Machine.{by_event, halted_state, work_of}
-use Rattle.member_server.specs.SealStep.{SealWork, actions_of_sealed, after_sealed, any_step_of, any_step_on, as_before, beside, by_sealed_event, hear_sealed, next_sealed, sealed_bytes_by, sealed_part, state_of_sealed, step_with as member_step_with}
+use Rattle.member_server.specs.SealStep.{SealWork, actions_of_sealed, after_sealed, any_step_on, as_before, beside, by_sealed_event, next_sealed, sealed_bytes_by, sealed_part, state_of_sealed, step_with as member_step_with}
 use Rattle.member_server.specs.State.{State as MemberState}
 use Rattle.member_server.specs.Turns.{turning_of}
 use Rattle.member_server.specs.declared.state.Running.{Running as MemberRunning}

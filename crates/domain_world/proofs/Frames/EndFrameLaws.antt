@@ -141,7 +141,7 @@ abbrev pub OfMoves : EndFact → MoveFact
 OfMoves Holds n p s given b = Holds p.at p.on (ends_in s) given b
 
 module _ (how : How) (Holds : EndFact) (keeps : KeepsEndsBy how Holds) where
-  ends_keep_by : (Known : Type 0) → KeepsMovesBy how Known NoSide (OfMoves Holds)
+  pub ends_keep_by : (Known : Type 0) → KeepsMovesBy how Known NoSide (OfMoves Holds)
   ends_keep_by Known = record {
     closes = λ n p end link s given b work none holds. keeps.calm p.at p.on end (event.Closed link) s given b tt holds;
     opens = λ n at dial route s given b out none holds. keeps.opens at route s given b holds;

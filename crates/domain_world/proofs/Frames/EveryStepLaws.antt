@@ -44,7 +44,7 @@ use Rattle.domain_world.specs.Past.{Delivery, note_at, note_client, note_control
 use Rattle.world_moves.proofs.EndKindLaws.{is_controller}
 use Rattle.world_moves.specs.Plain.{hear_plain, plain_controller_step as controller_step, plain_end_step as end_step, plain_member_step as member_step}
 use Rattle.world_moves.proofs.PlainKindLaws.{plain_by as end_by}
-use Rattle.domain_world.proofs.Frames.EndNoteLaws.{OfControllers}
+use Rattle.domain_world.proofs.Frames.EndNoteLaws.{OfControllers, turns_leave}
 use Rattle.domain_world.proofs.Frames.TurnFrameLaws.{turns_told}
 use Rattle.domain_world.proofs.Moves.LeftLaws.{DrawsOn}
 use Rattle.domain_world.proofs.Moves.OpenMadeLaws.{IsApart, IsAtSide, IsOnSide}
@@ -159,7 +159,12 @@ bytes_told end w piece s after b =
     (λ at m is. turns_told (OfMember at) w (turn_units m w.link piece s.moment s.chances.left) s after (note_messages at m w piece s b))
     (λ at c is. refl) end
 
--- the state once an end took a step and acted
+pub bytes_turns : (end : EndId) (w : Delivery) (piece : List ℕ) (s after : State) (b : Book) → (note_at (Some end) w piece s after b).turns ≡ b.turns
+bytes_turns end w piece s after b =
+    every_book (λ (one : EndId) (now : Book). now.turns ≡ b.turns) w piece s after b (λ one. refl) (λ at c is. refl)
+    (λ at m is. turns_leave m at w piece s after b) (λ at c is. refl) end
+
+-- so a state is once an end took that step
 abbrev pub stepped : EndId → EndStep → State → State
 stepped end step s = (done end (heard_by step s)).state
 

@@ -91,9 +91,9 @@ pub judged_judging : (passed : Bool) (j : Judging) → (judging_by passed j).jud
 judged_judging false j = refl
 judged_judging true j = passing_judging (channel_in j.controller (computer_named j.asked) j.checks) j
 
-pub opening_judging : (channel : Option ChannelIdentity) (w : Where) (number : ℕ) → (opening channel w number).judging ≡ None
-opening_judging None w number = refl
-opening_judging (Some channel) w number = refl
+pub opening_judging : (channel : Option ChannelIdentity) (w : Where) (number kind : ℕ) → (opening channel w number kind).judging ≡ None
+opening_judging None w number kind = refl
+opening_judging (Some channel) w number kind = refl
 
 -- a call that may be handed on
 trust_judging : (how : Option Judged) (j : Judging) → (trust_judging_by how j).judging ≡ Some j
@@ -134,8 +134,8 @@ module _ {X : Type 0} (ledger : Ledger X) (follows : FollowsCalls ledger) (w : W
     challenge = λ answers d left line c server on chains.
         more answers plain (ledger.of d) _ tt (follows.stays d.table d.work (answer_challenge d.table line c server d.work) (challenge_replies d.table line c server d.work).sessions) chains;
     authenticate = λ answers d left line c on chains.
-        let none = opening_judging (opened_by w.controller c d) w line.call in
-        more answers (opening (opened_by w.controller c d) w line.call) (ledger.of d) _ (subst (λ (judging : Option Judging). IsBy ledger w (ledger.of d) judging) (sym none) tt)
+        let none = opening_judging (opened_by w.controller c d) w line.call c.channel in
+        more answers (opening (opened_by w.controller c d) w line.call c.channel) (ledger.of d) _ (subst (λ (judging : Option Judging). IsBy ledger w (ledger.of d) judging) (sym none) tt)
         (follows.stays d.table d.work (answer_authenticate d.table line c d.work) (authenticate_replies d.table line c d.work).sessions
         ∙ ap (λ (judging : Option Judging). left_of ledger (ledger.of d) judging) (sym none)) chains;
     judged = λ answers d left line c on chains.

@@ -57,9 +57,9 @@ module _ (Fits : Judging → Type 0) where
   judging_holds false j holds = holds
   judging_holds true j holds = passing_holds (channel_in j.controller (computer_named j.asked) j.checks) j holds
 
-  pub opening_holds : (channel : Option ChannelIdentity) (w : Where) (number : ℕ) → HoldsIf Fits (opening channel w number).judging
-  opening_holds None w number = tt
-  opening_holds (Some channel) w number = tt
+  pub opening_holds : (channel : Option ChannelIdentity) (w : Where) (number kind : ℕ) → HoldsIf Fits (opening channel w number kind).judging
+  opening_holds None w number kind = tt
+  opening_holds (Some channel) w number kind = tt
 
 -- a fact that holds of each call on a secure channel that the controller answers
 abbrev pub HoldsOfCalls : (Judging → Type 0) → Where → Desk → Type 0
@@ -72,7 +72,7 @@ heard_holds Fits (heard.Close cause) w link d left part each is = tt
 heard_holds Fits (heard.Answer bytes talk) w link d left part each is = tt
 heard_holds Fits (heard.Waits talk) w link d left part each is = tt
 heard_holds Fits (heard.Asked line (call.Challenge c) talk) w link d left part each is = tt
-heard_holds Fits (heard.Asked line (call.Authenticate c) talk) w link d left part each is = opening_holds Fits (opened_by w.controller c d) w line.call
+heard_holds Fits (heard.Asked line (call.Authenticate c) talk) w link d left part each is = opening_holds Fits (opened_by w.controller c d) w line.call c.channel
 heard_holds Fits (heard.Asked line (call.Judged c) talk) w link d left part each is =
     let j : Judging = judging_of w line c d (Some (answer_judged c w.name w.moment line d)) in
     subst (λ (p : ServedPart Desk Talk). HoldsIf Fits (judged_answer (judging_of w line c d (work_after p))).judging) (sym is)
@@ -116,7 +116,7 @@ onto_hold Fits (j ∷ js) old each was = onto_hold Fits js (j ∷ old) each.1 (e
 
 -- ---- the units of a controller that may hand logons on
 
-by_holds : (Fits : Judging → Type 0) (how : Option Judged) (j : Judging) → Fits j → HoldsIf Fits (trust_judging_by how j).judging
+pub by_holds : (Fits : Judging → Type 0) (how : Option Judged) (j : Judging) → Fits j → HoldsIf Fits (trust_judging_by how j).judging
 by_holds Fits None j holds = holds
 by_holds Fits (Some (judged.Passed status)) j holds = judging_holds Fits true j holds
 by_holds Fits (Some judged.Forwarded) j holds = holds
@@ -152,7 +152,7 @@ module _ (Known : AccountTable → Type 0) (Fits : Judging → Type 0) where
       sends = λ answers d left bytes holds. (holds.0, one_more answers plain holds.1 tt);
       challenge = λ answers d left line c server on holds. (holds.0, one_more answers plain holds.1 tt);
       authenticate = λ answers d left line c on holds.
-          (holds.0, one_more answers (opening (opened_by w.controller c d) w line.call) holds.1 (opening_holds Fits (opened_by w.controller c d) w line.call));
+          (holds.0, one_more answers (opening (opened_by w.controller c d) w line.call c.channel) holds.1 (opening_holds Fits (opened_by w.controller c d) w line.call c.channel));
       judged = λ answers d left line c on holds.
           let its = of.judged line c d holds.0 in
           let j : Judging = judging_of w line c d (Some (answer_judged c w.name w.moment line d)) in

@@ -84,7 +84,7 @@ same_channel false j reply = refl
 same_channel true j reply = refl
 
 -- a call is written down with its reply
-with_number : (channel : ChannelIdentity) (call request : ℕ) (j : Judging) (bytes : List ℕ) (reply : Option ℕ) → IsReplyOfCall channel call request j bytes →
+pub with_number : (channel : ChannelIdentity) (call request : ℕ) (j : Judging) (bytes : List ℕ) (reply : Option ℕ) → IsReplyOfCall channel call request j bytes →
     IsReplyOfCall channel call request (record j { reply = reply }) bytes
 with_number channel call request j bytes reply is = record {
   came = is.came;

@@ -54,16 +54,16 @@ judging_so : (p : Bool) (j : Judging) → has_passed j.how ≡ p → AnswersSo j
 judging_so false j is = (refl, refl, refl, λ n channel came passed. absurd (not_passed j channel is passed))
 judging_so true j is = passing_so (channel_in j.controller (computer_named j.asked) j.checks) j refl is
 
-opening_so : (moves : ℕ) (source : Source) (channel : Option ChannelIdentity) (w : Where) (number : ℕ) → AnswersSo moves source (opening channel w number)
-opening_so moves source None w number = tt
-opening_so moves source (Some channel) w number = tt
+opening_so : (moves : ℕ) (source : Source) (channel : Option ChannelIdentity) (w : Where) (number kind : ℕ) → AnswersSo moves source (opening channel w number kind)
+opening_so moves source None w number kind = tt
+opening_so moves source (Some channel) w number kind = tt
 
 heard_so : (what : Heard) (w : Where) (d : Desk) (after : Option Desk) → AnswersSo w.at w.source (heard_answer what w d after)
 heard_so (heard.Close cause) w d after = tt
 heard_so (heard.Answer bytes talk) w d after = tt
 heard_so (heard.Waits talk) w d after = tt
 heard_so (heard.Asked line (call.Challenge c) talk) w d after = tt
-heard_so (heard.Asked line (call.Authenticate c) talk) w d after = opening_so w.at w.source (opened_by w.controller c d) w line.call
+heard_so (heard.Asked line (call.Authenticate c) talk) w d after = opening_so w.at w.source (opened_by w.controller c d) w line.call c.channel
 heard_so (heard.Asked line (call.Judged c) talk) w d after =
     judging_so (has_passed (judging_of w line c d after).how) (judging_of w line c d after) refl
 

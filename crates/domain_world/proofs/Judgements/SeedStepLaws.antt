@@ -146,9 +146,9 @@ module _ (w : Where) (judgings : List Judging) (left : List (List ℕ)) (numbers
     authenticate = λ answers d some line c on goes.
         let later : Computers = (answer_authenticate d.table line c d.work).computers in
         let opened : Option ChannelIdentity = opened_by w.controller c d in
-        further answers (opening opened w line.call) d later some some goes
-        (subst (λ (j : Option Judging). Goes (written answers) (with_judging j (number_sent (opening opened w line.call).sends (numbers_left answers numbers)) (written answers)) some some w.controller later)
-        (sym (opening_judging opened w line.call))
+        further answers (opening opened w line.call c.channel) d later some some goes
+        (subst (λ (j : Option Judging). Goes (written answers) (with_judging j (number_sent (opening opened w line.call c.channel).sends (numbers_left answers numbers)) (written answers)) some some w.controller later)
+        (sym (opening_judging opened w line.call c.channel))
         (stays (written answers) some w.controller later goes.order (authenticate_kept (written answers) some w.controller d.table line c d.work goes.kept)));
     judged = λ answers d some line c on goes.
         let later : Computers = (answer_judged c w.name w.moment line d).work.computers in

@@ -1,52 +1,31 @@
--- What controllers told in a run of a plan that hands nothing on are the judgements of the calls that they heard, in
--- their order. It serves `Proved.alone` and `Proved.credentials`.
-use Rattle.std.proofs.Common.{◌≡◌, ℕ, Bool, true, false, cond, List, [], ◌∷◌, ◌++◌, length, Option, Some, None, refl, sym, ap, ◌∙◌, subst}
-use Rattle.std.specs.List.{AllByRecursion}
+-- What a controller that asks nobody tells where bytes come are the judgements of the calls that it heard, in their
+-- order, and each judgement of a call is right. It serves `Proved.credentials` and `Proved.alone`.
+use Rattle.std.proofs.Common.{◌≡◌, ℕ, Bool, true, false, cond, List, [], ◌∷◌, ◌++◌, Option, Some, None, refl, sym, ap, ◌∙◌, subst}
 use Rattle.std.specs.Prelude.{flat_map}
 use Rattle.std.proofs.lemmas.List.{append-nil, flat_map_more}
 use Rattle.std.proofs.lemmas.List.Concat.{flat_map-append}
 use Rattle.authenticators.specs.SecureChannels.{SecureChannelState}
 use Rattle.outside.specs.declared.action.Action.{Action}
 use Rattle.outside.specs.declared.action.Judged.{Judged}
-use Rattle.outside.specs.declared.event.Event.{Event}
 use Rattle.domain_controller.specs.Machine.{Desk, answer_authenticate, answer_challenge, answer_judged}
 use Rattle.domain_controller.specs.Laws.{judges_call}
-use Rattle.domain_controller.specs.State.{State as ControllerState}
-use Rattle.domain_controller.specs.Step.{step_of}
 use Rattle.step_notes.specs.ControllerNotes.{Answered, judged_answer, plain, silent, Where, has_passed, judging_of, opened_by, opening}
 use Rattle.step_notes.specs.Judged.{IsJudgedRight, IsRightOf}
-use Rattle.step_notes.specs.MemberNotes.{turn_units}
-use Rattle.step_notes.specs.Records.{Book, JudgementTold, Judging, OfMember, given_in}
+use Rattle.step_notes.specs.Records.{JudgementTold, Judging, given_in}
 use Rattle.world_moves.specs.declared.links.EndId.{EndId}
 use Rattle.world_moves.specs.declared.links.EndId.TheVariants.{Controller, Member, Client}
-use Rattle.world_moves.specs.declared.moves.Move.{Move}
-use Rattle.world_moves.specs.declared.plan.Plan.{Plan}
-use Rattle.world_moves.specs.declared.state.State.{State}
 use Rattle.world_moves.specs.Acting.{Given, given_by}
-use Rattle.world_moves.specs.Ends.{EndStep, actions_by, client_step}
-use Rattle.world_moves.specs.Links.{acceptor_of}
-use Rattle.world_moves.specs.Moving.{begun, with_link, changed}
 use Rattle.domain_world.specs.Claims.{AreRightlyTold, AreTheirJudgements, judgements_of_calls}
-use Rattle.domain_world.specs.Past.{Delivery, at_controller, judged_of, judgement_by, judgements_in, later_of, note_client, note_member, note_messages, number_sent, numbers_on, onto, past, with_reply}
+use Rattle.domain_world.specs.Past.{judged_of, judgement_by, judgements_in, later_of, number_sent, onto, with_reply}
 use Rattle.step_notes.proofs.Controllers.JudgedStepLaws.{Told, how_is, told_call}
-use Rattle.domain_world.proofs.Frames.AloneNoteLaws.{alone_answers as answers_of, note_alone as note_at, note_controller_alone as note_controller}
-use Rattle.domain_world.proofs.Frames.AloneStepLaws.{act_alone as hear_and_act, alone_by as end_by}
 use Rattle.domain_world.proofs.Judgements.JudgedLaws.{AreRight}
-use Rattle.domain_world.proofs.Frames.TurnFrameLaws.{asked_leave}
-use Rattle.domain_world.proofs.Frames.EndFrameLaws.{EndFact, KeepsEnds, ends_after}
-use Rattle.step_notes.proofs.Controllers.NotedLaws.{NotedFact, StaysThrough, step_says}
+use Rattle.step_notes.proofs.Controllers.NotedLaws.{NotedFact, StaysThrough}
 use Rattle.controller_calls.proofs.ReplyLaws.{Replies, authenticate_replies, challenge_replies, read_behind}
 use Rattle.domain_world.proofs.Judgements.ChainLaws.{judged_judging, opening_judging}
 use Rattle.wire_base.specs.declared.authenticator.Authenticator.{Authenticator}
-use Rattle.domain_world.proofs.Moves.NoBytesLaws.{IsBeside, IsNoBytes, does_nothing_else}
-use Rattle.domain_world.proofs.Frames.EndNoteLaws.{judged_so, noted_by}
-use Rattle.domain_world.proofs.Frames.EventLaws.{calm_no_bytes}
 use Rattle.outside.specs.declared.action.Action.TheVariants as action
 use Rattle.outside.specs.declared.action.Judged.TheVariants as judged
-use Rattle.outside.specs.declared.event.Event.TheVariants as event
-use Rattle.world_moves.specs.Alone.{IsPlainAlone, hear_alone}
 use Rattle.world_moves.proofs.EndKindLaws.{is_controller}
-use Rattle.world_moves.specs.Plain.{plain_member_step as member_step}
 
 -- ---- what is told of calls
 
@@ -108,10 +87,10 @@ told_stays w link = record {
       (ap (flat_map (told_of w)) its.actions ∙ flat_map-append (told_of w) d.work.actions (action.Send line.link its.bytes ∷ []));
   authenticate = λ answers d left line c on follows.
       let its : Replies line d.work (answer_authenticate d.table line c d.work) = authenticate_replies d.table line c d.work in
-      further w answers (opening (opened_by w.controller c d) w line.call) d.work.actions (answer_authenticate d.table line c d.work).actions follows
+      further w answers (opening (opened_by w.controller c d) w line.call c.channel) d.work.actions (answer_authenticate d.table line c d.work).actions follows
       (ap (flat_map (told_of w)) its.actions
       ∙ flat_map-append (told_of w) d.work.actions (action.Send line.link its.bytes ∷ [])
-      ∙ ap (λ (j : Option Judging). flat_map (told_of w) d.work.actions ++ telling_if j) (sym (opening_judging (opened_by w.controller c d) w line.call)));
+      ∙ ap (λ (j : Option Judging). flat_map (told_of w) d.work.actions ++ telling_if j) (sym (opening_judging (opened_by w.controller c d) w line.call c.channel)));
   judged = λ answers d left line c on follows.
       let after : Desk = answer_judged c w.name w.moment line d in
       let j : Judging = judging_of w line c d (Some after) in
@@ -123,53 +102,14 @@ told_stays w link = record {
       ∙ ap (λ (one : Option Judging). flat_map (told_of w) d.work.actions ++ telling_if one) (sym (judged_judging (has_passed j.how) j)));
 }
 
--- ---- a step of a controller, when bytes come
+-- ---- only controllers tell judgements
 
-step_told : (controller : ℕ) (c : ControllerState) (w : Delivery) (piece : List ℕ) (s : State) →
-    judgements_in (given_by (Controller controller) (actions_by (step_of c (event.Bytes w.link piece) s.moment s.chances.left).answer)) w.at
-    ≡ answered (answers_of controller c w piece s)
-step_told controller c w piece s =
-    let at : Where = at_controller controller c w s in
-    told_by at (actions_by (step_of c (event.Bytes w.link piece) s.moment s.chances.left).answer)
-    ∙ step_says at w.link c piece s.moment s.chances.left (λ running. Follows at)
-    (λ answers stepped. flat_map (told_of at) (actions_by stepped.answer) ≡ answered answers) (record {
-      stays = λ running. told_stays at w.link;
-      first = λ running runs. refl;
-      stopped = λ ends. refl;
-      spent = refl;
-      taken = λ running answers d links rest runs follows. follows;
-    })
-
--- ---- steps that tell no judgement
-
--- such actions tell nothing
-beside_quiet : (controller : ℕ) (actions : List Action) (at : ℕ) → AllByRecursion IsBeside actions → judgements_in (given_by (Controller controller) actions) at ≡ []
-beside_quiet controller [] at all = refl
-beside_quiet controller (action.Keep bytes ∷ actions) at all = absurd all.0
-beside_quiet controller (action.Send link bytes ∷ actions) at all = absurd all.0
-beside_quiet controller (action.Dial peer ∷ actions) at all = absurd all.0
-beside_quiet controller (action.Close link cause ∷ actions) at all = beside_quiet controller actions at all.1
-beside_quiet controller (action.Told link outcome ∷ actions) at all = absurd all.0
-beside_quiet controller (action.Judged how ∷ actions) at all = absurd all.0
-
-controller_quiet : (c : ControllerState) (what : Event) (controller at now : ℕ) (left : List (List ℕ)) → IsNoBytes what →
-    judgements_in (given_by (Controller controller) (actions_by (step_of c what now left).answer)) at ≡ []
-controller_quiet c what controller at now left none = beside_quiet controller (actions_by (step_of c what now left).answer) at (does_nothing_else c what now left none).acts
-
--- only controllers tell judgements
 pub others_quiet : (end : EndId) → is_controller end ≡ false → (actions : List Action) (at : ℕ) → judgements_in (given_by end actions) at ≡ []
 others_quiet (Controller controller) other actions at = absurd (let never : true ≡ false = other in cc)
 others_quiet (Member member) other [] at = refl
 others_quiet (Member member) other (what ∷ actions) at = others_quiet (Member member) other actions at
 others_quiet (Client client) other [] at = refl
 others_quiet (Client client) other (what ∷ actions) at = others_quiet (Client client) other actions at
-
-end_quiet : (end : EndId) (what : Event) (s : State) (at : ℕ) → IsNoBytes what → judgements_in (given_by end (hear_alone end what s).actions) at ≡ []
-end_quiet end what s at none =
-    end_by (λ (one : EndId) (step : EndStep). judgements_in (given_by one step.actions) at ≡ []) what s.moment s.ends s.chances (λ one. refl)
-    (λ k c is. controller_quiet c what k at s.moment s.chances.left none)
-    (λ k m is. others_quiet (Member k) refl (member_step (Some m) k what s.moment s.ends s.chances).actions at)
-    (λ k c is. others_quiet (Client k) refl (client_step (Some c) k what s.moment s.ends s.chances).actions at) end
 
 -- ---- what is written down as bytes come
 
@@ -195,76 +135,6 @@ judged_told [] numbers = refl
 judged_told (one ∷ answers) numbers =
     reply_told one.judging (number_sent one.sends numbers) (judged_of answers (later_of one.sends numbers))
     ∙ ap (λ rest. telling_if one.judging ++ rest) (judged_told answers (later_of one.sends numbers))
-
--- the calls that are written down are those whose judgements were told, in this move or before
-abbrev AreTold : ℕ → Given → Book → Type 0
-AreTold at given b = tellings b.judged ≡ onto (judgements_in given at) b.judgements
-
--- what more is told is told of calls
-more_told : (at : ℕ) (given more : Given) (old new : Book) → AreTold at given old → tellings new.judged ≡ onto (judgements_in more at) (tellings old.judged) →
-    new.judgements ≡ old.judgements → AreTold at (given ++ more) new
-more_told at given more old new told judged same =
-    judged
-    ∙ ap (λ all. onto (judgements_in more at) all) (told ∙ ap (λ (judgements : List JudgementTold). onto (judgements_in given at) judgements) (sym same))
-    ∙ sym (onto_append (judgements_in given at) (judgements_in more at) new.judgements)
-    ∙ ap (λ all. onto all new.judgements) (sym (judgements_append given more at))
-
--- nothing more is told
-none_told : (at : ℕ) (given more : Given) (old new : Book) → AreTold at given old → judgements_in more at ≡ [] → new.judged ≡ old.judged → new.judgements ≡ old.judgements →
-    AreTold at (given ++ more) new
-none_told at given more old new told none judged same =
-    more_told at given more old new told (ap tellings judged ∙ ap (λ all. onto all (tellings old.judged)) (sym none)) same
-
-controller_told : (c : ControllerState) (controller : ℕ) (w : Delivery) (piece : List ℕ) (s after : State) (given : Given) (b : Book) → AreTold w.at given b →
-    AreTold w.at (given ++ given_by (Controller controller) (actions_by (step_of c (event.Bytes w.link piece) s.moment s.chances.left).answer)) (note_controller (Some c) controller w piece s after b)
-controller_told c controller w piece s after given b told =
-    let numbers : List ℕ = numbers_on w.link true s.bag after.bag in
-    more_told w.at given _ b (note_controller (Some c) controller w piece s after b) told
-    (tellings_onto (judged_of (answers_of controller c w piece s) numbers) b.judged
-    ∙ ap (λ all. onto all (tellings b.judged)) (judged_told (answers_of controller c w piece s) numbers
-    ∙ sym (step_told controller c w piece s)))
-    refl
-
-end_told : (end : EndId) (w : Delivery) (piece : List ℕ) (s after : State) (given : Given) (b : Book) → AreTold w.at given b →
-    AreTold w.at (given ++ given_by end (hear_alone end (event.Bytes w.link piece) s).actions) (note_at (Some end) w piece s after b)
-end_told end w piece s after given b told =
-    let what : Event = event.Bytes w.link piece in
-    noted_by (λ (one : EndId) (step : EndStep) (now : Book). AreTold w.at (given ++ given_by one step.actions) now) w piece s after b
-    (λ one. none_told w.at given [] b b told refl refl refl) (λ k c is. controller_told c k w piece s after given b told)
-    (λ k m is.
-    let actions : List Action = (member_step (Some m) k what s.moment s.ends s.chances).actions in
-    none_told w.at given (given_by (Member k) actions) b (note_member (Some m) k w piece s after b) told (others_quiet (Member k) refl actions w.at) (judged_so.members m k w piece s after b)
-    (asked_leave (OfMember k) w (turn_units m w.link piece s.moment s.chances.left) s after (note_messages k m w piece s b) (λ (book : Book). book.judgements)
-    (λ note served unit number old. refl)))
-    (λ k c is.
-    let actions : List Action = (client_step (Some c) k what s.moment s.ends s.chances).actions in
-    none_told w.at given (given_by (Client k) actions) b (note_client (Some c) k w piece s b) told (others_quiet (Client k) refl actions w.at) refl refl) end
-
--- ---- a run
-
-abbrev ToldSoFar : EndFact
-ToldSoFar at on ends given b = AreTold at given b
-
-told_keeps : KeepsEnds ToldSoFar
-told_keeps = record {
-  calm = λ at on end what s given b none told. none_told at given (given_by end (hear_alone end what s).actions) b b told (end_quiet end what s at (calm_no_bytes what none)) refl refl;
-  dialled = λ at end link s given b side told.
-      none_told at given (given_by end (hear_alone end (event.Dialled link) s).actions) b b told (end_quiet end (event.Dialled link) s at tt) refl refl;
-  opens = λ at route s given b told.
-      let end : EndId = acceptor_of route in
-      let what : Event = event.Opened (length s.links) in
-      none_told at given (given_by end (hear_alone end what (with_link route s)).actions) b b told (end_quiet end what (with_link route s) at tt) refl refl;
-  begins = λ at client plan s b is told.
-      none_told at [] (given_by (Client client) (begun client plan s).actions) b b told (others_quiet (Client client) refl (begun client plan s).actions at) refl refl;
-  comes = λ end w piece s given b side came told. end_told end w piece s (hear_and_act end (event.Bytes w.link piece) s).state given b told;
-  renews = λ at end s b told. told;
-  changes = λ at member secret s b told.
-      none_told at [] (given_by (Member member) (changed member secret s).actions) b b told (others_quiet (Member member) refl (changed member secret s).actions at) refl refl;
-  over = λ at on next s given b told. told;
-}
-
-pub judgements_told : (plan : Plan) (moves : List Move) → IsPlainAlone plan → tellings (past plan moves).book.judged ≡ (past plan moves).book.judgements
-judgements_told plan moves nobody = ends_after ToldSoFar told_keeps plan moves nobody (λ on. refl)
 
 -- ---- each is right
 

@@ -73,7 +73,7 @@ IsToldSo j = TellsItsStatus j ⊎ IsElsewhere j
 abbrev IsByTable : Plan → Judging → Type 0
 IsByTable plan j = IsPlanned plan j.controller j.table j.name × IsToldSo j
 
-call_differs : (c : JudgedCall) (name : List ℕ) (now : ℕ) (line : Line) (d : Desk) → DifferInStates d.table (answer_judged c name now line d).table
+pub call_differs : (c : JudgedCall) (name : List ℕ) (now : ℕ) (line : Line) (d : Desk) → DifferInStates d.table (answer_judged c name now line d).table
 call_differs c name now line d = heard-differs (heard.Asked line (call.Judged c) first_talk) line.link name now d []
 
 trusted_elsewhere : (w : Where) (line : Line) (c : JudgedCall) (d after : TrustDesk) → IsTrusted c d after → IsElsewhere (trusted_judging w line c d after)

@@ -84,9 +84,9 @@ judging_noted : (passed : Bool) (j : Judging) → has_passed j.how ≡ passed �
 judging_noted false j is = (ap (λ (p : Bool). channel_if p j) is, refl)
 judging_noted true j is = passing_noted (channel_in j.controller (computer_named j.asked) j.checks) j is refl
 
-opening_noted : (channel : Option ChannelIdentity) (w : Where) (number : ℕ) → IsNoted w.source (opening channel w number)
-opening_noted None w number = tt
-opening_noted (Some channel) w number = tt
+opening_noted : (channel : Option ChannelIdentity) (w : Where) (number kind : ℕ) → IsNoted w.source (opening channel w number kind)
+opening_noted None w number kind = tt
+opening_noted (Some channel) w number kind = tt
 
 by_noted : (how : Option Judged) (j : Judging) → j.how ≡ how → IsNoted j.source (trust_judging_by how j)
 by_noted None j is = judging_noted false j (ap has_passed is)
@@ -98,7 +98,7 @@ by_noted (Some judged.NoChannel) j is = judging_noted false j (ap has_passed is)
 
 call_noted : (c : ControllerCall) (line : Line) (w : Where) (before : Desk) (after : Option Desk) → IsNoted w.source (trust_call_answer c line w before after)
 call_noted (call.Challenge c) line w before after = tt
-call_noted (call.Authenticate c) line w before after = opening_noted (opened_by w.controller c before) w line.call
+call_noted (call.Authenticate c) line w before after = opening_noted (opened_by w.controller c before) w line.call c.channel
 call_noted (call.Judged c) line w before after = by_noted (judging_of w line c before after).how (judging_of w line c before after) refl
 
 heard_noted : (what : Heard) (w : Where) (before : Desk) (after : Option Desk) → IsNoted w.source (trust_heard_answer what w before after)

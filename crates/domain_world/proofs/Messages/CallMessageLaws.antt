@@ -100,7 +100,7 @@ module _ (Fits : ℕ → Logon → Type 0) where
   kept_in Own None kept = tt
   kept_in Own (Some running) kept = kept.0
 
-  all_fit : (Own : ℕ → Type 0) (m : MemberState) (number : ℕ) (piece : List ℕ) (now : ℕ) (left : List (List ℕ)) → KeptIn Fits Own m.running →
+  pub all_fit : (Own : ℕ → Type 0) (m : MemberState) (number : ℕ) (piece : List ℕ) (now : ℕ) (left : List (List ℕ)) → KeptIn Fits Own m.running →
       AllHold EachFits (turn_units m number piece now left)
   all_fit Own m number piece now left kept =
       all_hold EachFits

@@ -1,6 +1,6 @@
 -- In every schedule each AUTHENTICATE that a client made is the answer of its plan to the CHALLENGE that it heard.
 -- It serves `messages_are_made`.
-use Rattle.std.proofs.Common.{◌≡◌, ◌<◌, ◌^◌, ℕ, zero, suc, List, [], ◌∷◌, length, map, All, Some, refl, sym, subst, arith, inl, inr, slice_get, slice_set}
+use Rattle.std.proofs.Common.{◌≡◌, ◌<◌, ◌^◌, ℕ, zero, suc, List, [], ◌∷◌, length, map, All, Some, sym, subst, arith, inl, inr, slice_get, slice_set}
 use Rattle.std.specs.Prelude.{flat_map}
 use Rattle.std.specs.List.{AllByRecursion}
 use Rattle.std.proofs.lemmas.Bool.{cases_lt}

@@ -76,7 +76,7 @@ kept_here link (action.Close at cause ∷ kept) how other bytes on are = absurd 
 kept_here link (action.Told at outcome ∷ kept) how other bytes on are = absurd are.0
 kept_here link (action.Judged more ∷ kept) how other bytes on are = absurd are.0
 
-all_joined : (link : ℕ) (one two : List Action) → AllHere link one → AllHere link two → AllHere link (one ++ two)
+pub all_joined : (link : ℕ) (one two : List Action) → AllHere link one → AllHere link two → AllHere link (one ++ two)
 all_joined link [] two first second = second
 all_joined link (what ∷ one) two first second = (first.0, all_joined link one two first.1 second)
 
@@ -86,7 +86,7 @@ judged_here link line before after on here one =
     subst (λ (actions : List Action). AllHere link actions) (sym one.actions)
     (all_joined link before.work.actions tail here (kept_here link one.kept one.how line.link one.answer on one.are_kept))
 
-heard_here : (what : Heard) (link : ℕ) (name : List ℕ) (now : ℕ) (d : Desk) (left : List (List ℕ)) → IsOn link what → AllHere link d.work.actions → PartHere link (by_heard what link name now d left)
+pub heard_here : (what : Heard) (link : ℕ) (name : List ℕ) (now : ℕ) (d : Desk) (left : List (List ℕ)) → IsOn link what → AllHere link d.work.actions → PartHere link (by_heard what link name now d left)
 heard_here what link name now d left heard_so here =
     heard_comes (λ (one : Heard) (part : ServedPart Desk Talk). IsOn link one → PartHere link part) link name now d left (record {
       close = λ cause on. (d.work.actions, cause, refl, here);
@@ -110,17 +110,17 @@ here_stays link name now = record {
 -- ---- a step of a controller
 
 -- nothing is sent after the first actions
-record HasFront (link : ℕ) (actions : List Action) : Type 0 where
-  front : List Action
-  rest : List Action
-  is : actions ≡ front ++ rest
-  here : AllHere link front
-  none : sends_in rest ≡ []
+pub record HasFront (link : ℕ) (actions : List Action) : Type 0 where
+  pub front : List Action
+  pub rest : List Action
+  pub is : actions ≡ front ++ rest
+  pub here : AllHere link front
+  pub none : sends_in rest ≡ []
 
-no_front : (link : ℕ) → HasFront link []
+pub no_front : (link : ℕ) → HasFront link []
 no_front link = record { front = []; rest = []; is = refl; here = tt; none = refl }
 
-front_by : (link : ℕ) (actions : List Action) (talk : Option Talk) → ClosesLast link actions talk → HasFront link actions
+pub front_by : (link : ℕ) (actions : List Action) (talk : Option Talk) → ClosesLast link actions talk → HasFront link actions
 front_by link actions (Some talk) here = record { front = actions; rest = []; is = sym (append-nil actions); here = here; none = refl }
 front_by link actions None closes = record { front = closes.0; rest = action.Close link closes.1 ∷ []; is = closes.2; here = closes.3; none = refl }
 

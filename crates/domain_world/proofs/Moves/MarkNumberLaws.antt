@@ -1,7 +1,7 @@
 -- Which number the unit of a mark has: the units that go into the bag on a link get the marks in order, and where an
 -- end sends once for each mark before it closes a link, no mark is left over. It serves `Proved.call_marks`,
--- `Proved.reply_marks` and `Proved.opened_marks`.
-use Rattle.std.proofs.Common.{◌≡◌, ℕ, suc, ◌+◌, ◌≤◌, Bool, true, false, List, [], ◌∷◌, ◌++◌, drop, length, map, Some, slice_get, refl, sym, ap, subst, ◌∙◌, arith, if◌then◌else◌}
+-- `Proved.reply_marks`, `Proved.opened_marks` and `Proved.opened`.
+use Rattle.std.proofs.Common.{◌≡◌, ◌⊎◌, ℕ, zero, suc, ◌+◌, ◌≤◌, Bool, true, false, List, [], ◌∷◌, ◌++◌, drop, length, map, inl, inr, Some, slice_get, refl, sym, ap, subst, ◌∙◌, arith, if◌then◌else◌}
 use Rattle.std.specs.List.{AllByRecursion}
 use Rattle.std.proofs.lemmas.List.{drop_at}
 use Rattle.outside.specs.declared.action.Action.{Action}
@@ -21,6 +21,7 @@ use Rattle.domain_world.specs.Past.{is_sent_on, later_of, marks_by, marks_of, nu
 use Rattle.domain_world.proofs.Moves.MarkPlaceLaws.{IsHere, front_units, got_later, passes}
 use Rattle.domain_world.proofs.Moves.NewUnitLaws.{IsFront, MoreAfter, front_bag}
 use Rattle.domain_controller.proofs.TurnOutLaws.{got_map}
+use Rattle.wire_base.proofs.ListLaws.{got_nothing, some_is}
 
 -- ---- marks and numbers, in order
 
@@ -77,6 +78,53 @@ module _ (link : ℕ) (back : Bool) where
       AtNumbers (IsGiven (marks_of link back units marks) first) marks (places_from (is_sent_on link back) first units)
   marks_numbered [] marks first = none_numbered (IsGiven [] first) marks
   marks_numbered (unit ∷ units) marks first = first_numbered (is_sent_on link back unit) units marks first (λ others. marks_numbered units others (first + 1))
+
+-- ---- the mark of a unit is the next of them, and the unit has its number
+
+-- the mark and the number stand at one place
+pub record StandsAt (marks : List Mark) (numbers : List ℕ) (number : ℕ) (mark : Mark) : Type 0 where
+  pub place : ℕ
+  pub marked : slice_get marks place ≡ Some mark
+  pub numbered : slice_get numbers place ≡ Some number
+
+abbrev pub PlainOrAt : List Mark → List ℕ → ℕ → Mark → Type 0
+PlainOrAt marks numbers number mark = (mark ≡ Plain) ⊎ StandsAt marks numbers number mark
+
+same_number : (marks : List Mark) (numbers : List ℕ) (one other : ℕ) (mark : Mark) → one ≡ other → PlainOrAt marks numbers one mark → PlainOrAt marks numbers other mark
+same_number marks numbers one other mark same at = subst (λ (n : ℕ). PlainOrAt marks numbers n mark) same at
+
+one_later : (first : ℕ) (other : Mark) (marks : List Mark) (numbers : List ℕ) (number : ℕ) (mark : Mark) → PlainOrAt marks numbers number mark → PlainOrAt (other ∷ marks) (first ∷ numbers) number mark
+one_later first other marks numbers number mark (inl plain) = inl plain
+one_later first other marks numbers number mark (inr at) = inr (record { place = suc at.place; marked = at.marked; numbered = at.numbered })
+
+none_there : (numbers more : List ℕ) (number : ℕ) (mark : Mark) → PlainOrAt [] numbers number mark → PlainOrAt [] more number mark
+none_there numbers more number mark (inl plain) = inl plain
+none_there numbers more number mark (inr at) = absurd (got_nothing at.place mark at.marked)
+
+module _ (link : ℕ) (back : Bool) where
+  first_at : (hit : Bool) (units : List BagUnit) (marks : List Mark) (first place : ℕ) (mark : Mark) →
+      ((others : List Mark) (k : ℕ) → slice_get (marks_of link back units others) k ≡ Some mark → PlainOrAt others (places_from (is_sent_on link back) (first + 1) units) (first + 1 + k) mark) →
+      slice_get (marks_by hit marks (λ rest. marks_of link back units rest)) place ≡ Some mark →
+      PlainOrAt marks (if hit then first ∷ places_from (is_sent_on link back) (first + 1) units else places_from (is_sent_on link back) (first + 1) units) (first + place) mark
+  first_at false units marks first zero mark later there = inl (sym (some_is Plain mark there))
+  first_at false units marks first (suc place) mark later there =
+      same_number marks (places_from (is_sent_on link back) (first + 1) units) (first + 1 + place) (first + suc place) mark (omega arith) (later marks place there)
+  first_at true units [] first zero mark later there = inl (sym (some_is Plain mark there))
+  first_at true units [] first (suc place) mark later there =
+      none_there (places_from (is_sent_on link back) (first + 1) units) (first ∷ places_from (is_sent_on link back) (first + 1) units) (first + suc place) mark
+      (same_number [] (places_from (is_sent_on link back) (first + 1) units) (first + 1 + place) (first + suc place) mark (omega arith) (later [] place there))
+  first_at true units (other ∷ marks) first zero mark later there =
+      inr (record { place = 0; marked = there; numbered = ap (λ (n : ℕ). Some n) (let e : first ≡ first + 0 = omega arith in e) })
+  first_at true units (other ∷ marks) first (suc place) mark later there =
+      one_later first other marks (places_from (is_sent_on link back) (first + 1) units) (first + suc place) mark
+      (same_number marks (places_from (is_sent_on link back) (first + 1) units) (first + 1 + place) (first + suc place) mark (omega arith) (later marks place there))
+
+  -- of units of which the first has that number
+  pub mark_at : (units : List BagUnit) (marks : List Mark) (first place : ℕ) (mark : Mark) → slice_get (marks_of link back units marks) place ≡ Some mark →
+      PlainOrAt marks (places_from (is_sent_on link back) first units) (first + place) mark
+  mark_at [] marks first place mark there = absurd (got_nothing place mark there)
+  mark_at (unit ∷ units) marks first place mark there =
+      first_at (is_sent_on link back unit) units marks first place mark (λ others k is. mark_at units others (first + 1) k mark is) there
 
 -- ---- as they are written down
 

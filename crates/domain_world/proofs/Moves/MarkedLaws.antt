@@ -101,7 +101,7 @@ client_few : (found : Option ClientState) (at : ℕ) (w : Delivery) (piece : Lis
 client_few None at w piece s after b more few = omega (arith, more, few)
 client_few (Some c) at w piece s after b more few = omega (arith, more, few)
 
-bytes_few : (end : EndId) (w : Delivery) (piece : List ℕ) (s after : State) (b : Book) → length s.bag ≤ length after.bag → length b.sent ≤ length s.bag →
+pub bytes_few : (end : EndId) (w : Delivery) (piece : List ℕ) (s after : State) (b : Book) → length s.bag ≤ length after.bag → length b.sent ≤ length s.bag →
     length (note_at (Some end) w piece s after b).sent ≤ length after.bag
 bytes_few (Controller at) w piece s after b more few = controller_few (slice_get s.ends.controllers at) at w piece s after b more few
 bytes_few (Member at) w piece s after b more few = member_few (slice_get s.ends.members at) at w piece s after b more few
@@ -117,7 +117,7 @@ no_fewer end what s =
 abbrev AreFew : MoveFact
 AreFew n p s given b = length b.sent ≤ length (bag_at p.to s.bag)
 
-act_few : (to : Option State) (end : EndId) (what : Action) (s : State) (sent : List Sent) → length sent ≤ length (bag_at to s.bag) → length sent ≤ length (bag_at to (perform_quietly end what s).bag)
+pub act_few : (to : Option State) (end : EndId) (what : Action) (s : State) (sent : List Sent) → length sent ≤ length (bag_at to s.bag) → length sent ≤ length (bag_at to (perform_quietly end what s).bag)
 act_few None end what s sent few = omega (arith, few, length-append s.bag (units_of_action s.links end what))
 act_few (Some after) end what s sent few = few
 

@@ -122,11 +122,15 @@ pub record IsAtSide (links : List Route) (link : ℕ) (back : Bool) (end : EndId
 pub on_side : (links : List Route) (link : ℕ) (back : Bool) (end : EndId) → IsAtSide links link back end → IsOnSide links link back end
 on_side links link back end at = record { route = at.route; made = at.made; side = at.side }
 
-pub same_side : (one other : EndId) (links : List Route) (link : ℕ) (back : Bool) → IsAtSide links link back one → IsAtSide links link back other → one ≡ other
-same_side one other links link back first second =
+pub same_on_side : (one other : EndId) (links : List Route) (link : ℕ) (back : Bool) → IsOnSide links link back one → IsOnSide links link back other → one ≡ other
+same_on_side one other links link back first second =
     let found : Some first.route ≡ Some second.route = sym first.made ∙ second.made in
     let route : first.route ≡ second.route = cc in
     let both : Some one ≡ Some other = sym first.side ∙ ap (λ (r : Route). side_of back r) route ∙ second.side in cc
+
+pub same_side : (one other : EndId) (links : List Route) (link : ℕ) (back : Bool) → IsAtSide links link back one → IsAtSide links link back other → one ≡ other
+same_side one other links link back first second =
+    same_on_side one other links link back (on_side links link back one first) (on_side links link back other second)
 
 hears_at : (back : Bool) (found : Option OpenLink) (links : List Route) (link : ℕ) (end : EndId) → ((there : OpenLink) → found ≡ Some there → slice_get links link ≡ Some there.route) →
     hearer_of back found ≡ Some end → IsOnSide links link back end

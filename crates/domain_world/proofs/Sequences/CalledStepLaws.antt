@@ -39,8 +39,8 @@ use Rattle.domain_world.proofs.Moves.RequesterLaws.{asking_end, is_itself}
 -- and the dial waits, its turn is that one.
 pub record OwnCalls (Done : ℕ → Type 0) (marks : List Mark) (drawn : List (List ℕ)) (turns : List ChannelTurn) (given : Given) (controller : ℕ) (who : RequesterId) (running : Running) : Type 0 where
   pub own : List ChannelTurn
-  pub none : given_dials who given ≡ 0 → own ≡ mine who turns
-  pub one : given_dials who given ≡ 1 → IsWaiting running.dialling → own ≡ mine who turns ++ turn_of controller who running.logons.channel
+  pub none : given_dials (asking_end who) given ≡ 0 → own ≡ mine who turns
+  pub one : given_dials (asking_end who) given ≡ 1 → IsWaiting running.dialling → own ≡ mine who turns ++ turn_of controller who running.logons.channel
   pub before : AreDrawn drawn own
   pub turned : Turned (view_of controller running.logons.channel) own drawn
   pub calls : KnowsCalls Done marks own controller running.logons.channel
@@ -50,7 +50,7 @@ pub own_grows : (Done Later : ℕ → Type 0) (so : (n : ℕ) → Done n → Lat
     ((j : ℕ) (mark : Mark) → slice_get marks j ≡ Some mark → slice_get later j ≡ Some mark) →
     ((c : ChannelIdentity) → stands_in controller running.logons.channel.caller.computer running.logons.channel.standing ≡ Some c → (n number timestamp : ℕ) (d : ChannelIdentity) →
     slice_get later n ≡ Some (Calling d number timestamp) → d.client ≡ c.client → slice_get marks n ≡ Some (Calling d number timestamp)) →
-    given_dials who more ≡ given_dials who given → StillDrawn drawn after → OwnCalls Done marks drawn turns given controller who running → OwnCalls Later later after turns more controller who running
+    given_dials (asking_end who) more ≡ given_dials (asking_end who) given → StillDrawn drawn after → OwnCalls Done marks drawn turns given controller who running → OwnCalls Later later after turns more controller who running
 own_grows Done Later so marks later drawn after turns given more controller who running still new same grown old = record {
   own = old.own;
   none = λ none. old.none (sym same ∙ none);
@@ -127,8 +127,8 @@ module _ (Done : ℕ → Type 0) (marks : List Mark) (drawn : List (List ℕ)) (
 -- what the event comes to is known, and the next turn may start
 pub step_calls : (Done : ℕ → Type 0) (marks : List Mark) (drawn : List (List ℕ)) (turns : List ChannelTurn) (given : Given) (controller : ℕ) (who : RequesterId) (running : Running) (what : Event) (now : ℕ) (left : List (List ℕ))
     (part : Part DialWork) (own : List ChannelTurn) (steps : TurnSteps running.logons.channel (by_event what running.dialling (work_of running) left) now part) → AreDrawn drawn own →
-    (given_dials who given ≡ 0 → own ≡ mine who turns) →
-    (dials_in part.value.0.actions ≡ 0 → given_dials who given ≡ 1 → IsWaiting part.value.1 → own ≡ mine who turns ++ turn_of controller who part.value.0.logons.channel) → IsCoherent running.logons.channel →
+    (given_dials (asking_end who) given ≡ 0 → own ≡ mine who turns) →
+    (dials_in part.value.0.actions ≡ 0 → given_dials (asking_end who) given ≡ 1 → IsWaiting part.value.1 → own ≡ mine who turns ++ turn_of controller who part.value.0.logons.channel) → IsCoherent running.logons.channel →
     Turned (view_of controller running.logons.channel) own drawn → KnowsCalls Done marks own controller steps.part.value.0.logons.channel → Differ (drawn ++ draws_between left part.left) →
     OwnCalls Done marks (drawn ++ draws_between left part.left) turns (given ++ given_by (asking_end who) part.value.0.actions) controller who
     (record { logons = part.value.0.logons; links = part.value.0.links; dialling = part.value.1; sealing = None })
@@ -142,18 +142,18 @@ step_calls Done marks drawn turns given controller who running what now left par
     let next : Next Done marks (drawn ++ draws_between left part.left) own controller who part.value.0.logons.channel (dials_in actions) =
     next_calls Done marks drawn own controller who before (can_start mid.turn mid.waiting) (needs_challenge mid.standing) now mid left steps.part.left part.value.0.logons.channel part.left
     steps.part.value.1 part.value refl refl steps.next rest_left steps.dials (ready_coherent w comes.0) differ comes.1 calls in
-    let count : given_dials who (given ++ given_by (asking_end who) actions) ≡ given_dials who given + dials_in actions =
-    omega (arith, given_append who given (given_by (asking_end who) actions), given_own who (asking_end who) actions (is_itself who)) in
+    let count : given_dials (asking_end who) (given ++ given_by (asking_end who) actions) ≡ given_dials (asking_end who) given + dials_in actions =
+    omega (arith, given_append (asking_end who) given (given_by (asking_end who) actions), given_own (asking_end who) (asking_end who) actions (is_itself who)) in
     record {
       own = next.turns;
       none = λ is.
           (let no_dials : dials_in actions ≡ 0 = omega (arith, count, is) in
-          let no_given : given_dials who given ≡ 0 = omega (arith, count, is) in next.none no_dials ∙ none no_given);
+          let no_given : given_dials (asking_end who) given ≡ 0 = omega (arith, count, is) in next.none no_dials ∙ none no_given);
       one = λ is waits. elim (zero_or (dials_in actions)) [
         | inl no_dials ↦
-            (let was : given_dials who given ≡ 1 = omega (arith, count, is, no_dials) in next.none no_dials ∙ still no_dials was waits)
+            (let was : given_dials (asking_end who) given ≡ 1 = omega (arith, count, is, no_dials) in next.none no_dials ∙ still no_dials was waits)
         | inr some ↦
-            (let no_given : given_dials who given ≡ 0 = omega (arith, count, is, some) in
+            (let no_given : given_dials (asking_end who) given ≡ 0 = omega (arith, count, is, some) in
             next.one some ∙ ap (λ (l : List ChannelTurn). l ++ turn_of controller who part.value.0.logons.channel) (none no_given))
       ];
       before = next.before;

@@ -1,7 +1,7 @@
 -- What holds through the moves of a world of its ends, its dials, the draws, and the turns that are written down:
 -- whatever holds through each step of an end. It knows of each action that it is done once, and of each answer to a
--- dial that the dial waited. It is an instance of `MoveFrameLaws`.
--- It serves `Proved.own`.
+-- dial that the dial waited. It is an instance of `MoveFrameLaws`, whether controllers ask others or not.
+-- It serves `Proved.own` and `Proved.one_turn`.
 use Rattle.std.proofs.Common.{◌≡◌, ℕ, List, [], ◌∷◌, ◌++◌, length, Option, Some, None, slice_get, sym, subst}
 use Rattle.outside.specs.Drawing.{Drawing}
 use Rattle.outside.specs.declared.action.Action.{Action}
@@ -14,19 +14,17 @@ use Rattle.world_moves.specs.declared.links.EndId.TheVariants.{Client, Member}
 use Rattle.world_moves.specs.declared.moves.Move.{Move}
 use Rattle.world_moves.specs.declared.state.State.{State}
 use Rattle.world_moves.specs.declared.state.WaitingDial.{WaitingDial}
-use Rattle.world_moves.specs.Acting.{Given, AfterHearing, forget, given_by, perform_quietly}
+use Rattle.world_moves.specs.Acting.{Given, AfterHearing, done, forget, given_by, perform_quietly}
 use Rattle.world_moves.specs.Ends.{EndStates}
 use Rattle.world_moves.specs.Links.{acceptor_of}
 use Rattle.world_moves.specs.Moving.{begun, changed, with_link, without_first}
 use Rattle.domain_world.specs.Past.{turns_in, past}
-use Rattle.domain_world.proofs.Frames.AloneStepLaws.{act_alone as hear_and_act, renewed_alone as renewed}
-use Rattle.domain_world.proofs.Frames.EndNoteLaws.{bytes_turns}
-use Rattle.domain_world.proofs.Frames.AloneFrameLaws.{moves_keep_alone}
+use Rattle.domain_world.proofs.Frames.ByKindLaws.{StepsByKind, every_kinds}
 use Rattle.domain_world.proofs.Frames.MoveFrameLaws.{HoldsAfterMoves}
-use Rattle.domain_world.proofs.Frames.MoveKeepLaws.{KeepsMoves, MoveFact, NoSide}
+use Rattle.domain_world.proofs.Frames.MoveKeepLaws.{How, KeepsMovesBy, MoveFact, NoSide, every}
+use Rattle.domain_world.proofs.Frames.PlainFrameLaws.{moves_keep_plain}
 use Rattle.world_moves.specs.declared.plan.Plan.{Plan}
-use Rattle.world_moves.specs.Alone.{IsPlainAlone, hear_alone as hear}
-use Rattle.world_moves.specs.Plain.{plain_world}
+use Rattle.world_moves.specs.Plain.{NothingSeals, plain_world}
 
 -- What is to hold: of whose dial is answered, and of what was given and isn't done yet; of the members' plans, the
 -- ends, the dials and the draws; and of what was given in this move, and the turns that are written down.
@@ -40,18 +38,18 @@ AtState Holds d rest s given turns = Holds d rest s.member_plans s.ends s.dials 
 abbrev pub IsHeard : DialFact → Option EndId → Given → EndId → AfterHearing → Given → List ChannelTurn → Type 0
 IsHeard Holds d rest end heard given turns = AtState Holds d (given_by end heard.actions ++ rest) heard.state (given ++ given_by end heard.actions) turns
 
-pub record KeepsDials (Holds : DialFact) : Type 0 where
+pub record KeepsDials (how : How) (Holds : DialFact) : Type 0 where
   pub closes : (d : Option EndId) (rest : Given) (end : EndId) (link : ℕ) (s : State) (given : Given) (turns : List ChannelTurn) → AtState Holds d rest s given turns →
-      IsHeard Holds d rest end (hear end (event.Closed link) s) given turns
+      IsHeard Holds d rest end (how.hears end (event.Closed link) s) given turns
   pub opens : (d : Option EndId) (end : EndId) (link : ℕ) (s : State) (given : Given) (turns : List ChannelTurn) → AtState Holds d [] s given turns →
-      IsHeard Holds d [] end (hear end (event.Opened link) s) given turns
+      IsHeard Holds d [] end (how.hears end (event.Opened link) s) given turns
   pub comes : (end : EndId) (link : ℕ) (piece : List ℕ) (s : State) (given : Given) (turns : List ChannelTurn) → AtState Holds None [] s given turns →
-      IsHeard Holds None [] end (hear end (event.Bytes link piece) s) given turns
+      IsHeard Holds None [] end (how.hears end (event.Bytes link piece) s) given turns
   -- the dial of that end is answered, or fails
   pub dialled : (end : EndId) (link : ℕ) (s : State) (given : Given) (turns : List ChannelTurn) → AtState Holds (Some end) [] s given turns →
-      IsHeard Holds None [] end (hear end (event.Dialled link) s) given turns
+      IsHeard Holds None [] end (how.hears end (event.Dialled link) s) given turns
   pub fails : (end : EndId) (s : State) (given : Given) (turns : List ChannelTurn) → AtState Holds (Some end) [] s given turns →
-      IsHeard Holds None [] end (hear end event.DialFailed s) given turns
+      IsHeard Holds None [] end (how.hears end event.DialFailed s) given turns
   pub begins : (client : ℕ) (plan : ClientPlan) (s : State) (turns : List ChannelTurn) → AtState Holds None [] s [] turns → IsHeard Holds None [] (Client client) (begun client plan s) [] turns
   -- an action is done
   pub acts : (d : Option EndId) (rest : Given) (end : EndId) (what : Action) (s : State) (given : Given) (turns : List ChannelTurn) → AtState Holds d ((end, what) ∷ rest) s given turns →
@@ -60,7 +58,7 @@ pub record KeepsDials (Holds : DialFact) : Type 0 where
   pub first : (dial : WaitingDial) (s : State) (turns : List ChannelTurn) → slice_get s.dials 0 ≡ Some dial → AtState Holds None [] s [] turns →
       AtState Holds (Some dial.end) [] (without_first s) [] turns
   pub forgets : (end : EndId) (s : State) (turns : List ChannelTurn) → AtState Holds None [] s [] turns → AtState Holds None [] (forget end s) [] turns
-  pub renews : (end : EndId) (s : State) (turns : List ChannelTurn) → AtState Holds None [] s [] turns → AtState Holds None [] (renewed end (forget end s)) [] turns
+  pub renews : (end : EndId) (s : State) (turns : List ChannelTurn) → AtState Holds None [] s [] turns → AtState Holds None [] (how.renews end (forget end s)) [] turns
   -- a member begins to change its secret
   pub changes : (at : ℕ) (secret : List ℕ) (s : State) (turns : List ChannelTurn) → AtState Holds None [] s [] turns → IsHeard Holds None [] (Member at) (changed at secret s) [] turns
   -- the move is over
@@ -68,33 +66,35 @@ pub record KeepsDials (Holds : DialFact) : Type 0 where
 
 -- ---- a run
 
-module _ (Holds : DialFact) (keeps : KeepsDials Holds) where
-  abbrev pub OfDials : MoveFact
-  OfDials n p s given b = AtState Holds p.dial p.rest s given b.turns
+abbrev pub OfDials : DialFact → MoveFact
+OfDials Holds n p s given b = AtState Holds p.dial p.rest s given b.turns
 
-  pub dials_keep : (Known : Type 0) → KeepsMoves Known NoSide OfDials
-  dials_keep Known = record {
-    closes = λ n p end link s given b work none holds. keeps.closes p.dial p.rest end link s given b.turns holds;
-    opens = λ n at dial route s given b out none holds. keeps.opens dial (acceptor_of route) (length s.links) (with_link route s) given b.turns holds;
-    dialled = λ n at end link s given b side none holds. keeps.dialled end link s given b.turns holds;
-    fails = λ n at end s b none holds. keeps.fails end s [] b.turns holds;
-    begins = λ n at client plan s b is none holds. keeps.begins client plan s b.turns holds;
-    comes = λ n end w piece s given b side came bytes none holds.
-        subst (λ (turns : List ChannelTurn). IsHeard Holds None [] end (hear end (event.Bytes w.link piece) s) given turns)
-        (sym (bytes_turns end w piece s (hear_and_act end (event.Bytes w.link piece) s).state b)) (keeps.comes end w.link piece s given b.turns holds);
-    reaches = λ n w s given b none holds. holds;
-    acts = λ n p end what s given b work none holds. keeps.acts p.dial p.rest end what s given b.turns holds;
-    shuts = λ n p link s given b work none holds. holds;
-    answers = λ n at dial link there s given b is none holds. holds;
-    forgets = λ n at end s b none holds. keeps.forgets end s b.turns holds;
-    settles = λ n at on number s b none holds. holds;
-    dials = λ n at dial s b is none holds. keeps.first dial s b.turns is holds;
-    renews = λ n at end s b none holds. keeps.renews end s b.turns holds;
-    changes = λ n at member secret s b formed none holds. keeps.changes member secret s b.turns holds;
-    ticks = λ n at more s b none holds. holds;
-    over = λ n at on next s given b none holds. keeps.over s given b.turns holds;
-  }
+pub dials_keep : (how : How) → StepsByKind how → (Holds : DialFact) → KeepsDials how Holds → (Known : Type 0) → KeepsMovesBy how Known NoSide (OfDials Holds)
+dials_keep how kinds Holds keeps Known = record {
+  closes = λ n p end link s given b work none holds. keeps.closes p.dial p.rest end link s given b.turns holds;
+  opens = λ n at dial route s given b out none holds. keeps.opens dial (acceptor_of route) (length s.links) (with_link route s) given b.turns holds;
+  dialled = λ n at end link s given b side none holds. keeps.dialled end link s given b.turns holds;
+  fails = λ n at end s b none holds. keeps.fails end s [] b.turns holds;
+  begins = λ n at client plan s b is none holds. keeps.begins client plan s b.turns holds;
+  comes = λ n end w piece s given b side came bytes none holds.
+      subst (λ (turns : List ChannelTurn). IsHeard Holds None [] end (how.hears end (event.Bytes w.link piece) s) given turns)
+      (sym (kinds.turns end w piece s (done end (how.hears end (event.Bytes w.link piece) s)).state b)) (keeps.comes end w.link piece s given b.turns holds);
+  reaches = λ n w s given b none holds. holds;
+  acts = λ n p end what s given b work none holds. keeps.acts p.dial p.rest end what s given b.turns holds;
+  shuts = λ n p link s given b work none holds. holds;
+  answers = λ n at dial link there s given b is none holds. holds;
+  forgets = λ n at end s b none holds. keeps.forgets end s b.turns holds;
+  settles = λ n at on number s b none holds. holds;
+  dials = λ n at dial s b is none holds. keeps.first dial s b.turns is holds;
+  renews = λ n at end s b none holds. keeps.renews end s b.turns holds;
+  changes = λ n at member secret s b formed none holds. keeps.changes member secret s b.turns holds;
+  ticks = λ n at more s b none holds. holds;
+  over = λ n at on next s given b none holds. keeps.over s given b.turns holds;
+}
 
-  pub dials_after : (plan : Plan) (moves : List Move) → IsPlainAlone plan → AtState Holds None [] (plain_world plan).state [] [] → AtState Holds None [] (past plan moves).world.state [] (past plan moves).book.turns
-  dials_after plan moves nobody holds =
-      let after : HoldsAfterMoves ⊥ OfDials plan moves = moves_keep_alone ⊥ OfDials (dials_keep ⊥) plan moves nobody (λ none. absurd none) (λ on. holds) in after.holds
+-- in every run in which nothing seals
+pub dials_after : (Holds : DialFact) → KeepsDials every Holds → (plan : Plan) (moves : List Move) → NothingSeals plan → AtState Holds None [] (plain_world plan).state [] [] →
+    AtState Holds None [] (past plan moves).world.state [] (past plan moves).book.turns
+dials_after Holds keeps plan moves nothing holds =
+    let after : HoldsAfterMoves ⊥ (OfDials Holds) plan moves =
+    moves_keep_plain ⊥ (OfDials Holds) (dials_keep every every_kinds Holds keeps ⊥) plan moves nothing (λ none. absurd none) (λ on. holds) in after.holds

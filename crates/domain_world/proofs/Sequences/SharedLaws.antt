@@ -266,7 +266,7 @@ sequence_shared p known heard clear units judged stamped called own left follow 
 pub sequences_follow : SequencesFollow
 sequences_follow plan moves nobody heard stamped called clear =
     let differ : DrawsDiffer (past plan moves).world = draws_differ plan moves in
-    sequence_shared (past plan moves) (is_proved plan moves nobody differ) (heard_in plan moves nobody heard differ) clear heard.whole heard.judged stamped called (sequences_own plan moves nobody)
+    sequence_shared (past plan moves) (is_proved plan moves nobody differ) (heard_in plan moves nobody heard differ) clear heard.whole heard.judged stamped called (sequences_own plan moves nobody.plain)
     (past plan moves).world.state.chances.left (seeds_kept plan moves nobody.plain)
 
 -- ---- a call whose answer was taken

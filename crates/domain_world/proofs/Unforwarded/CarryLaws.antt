@@ -11,25 +11,24 @@ use Rattle.world_moves.specs.Plain.{NothingSeals}
 use Rattle.domain_world.specs.Accepting.Answered.{CallsAskForMessages}
 use Rattle.domain_world.specs.Accepting.Carried.{MarkedUnitsAreWhole}
 use Rattle.domain_world.specs.Accepting.Sequences.{RepliesAnswerCalls, TurnsAreCalled}
-use Rattle.domain_world.specs.Claims.{AcceptsAllGranted, AcceptsOnlyGranted, IsClear, KeysAgree, ShortResponsesLetInOnce, TellsOfCallsAlone}
+use Rattle.domain_world.specs.Claims.{AcceptsAllGranted, AcceptsOnlyGranted, IsClear, KeysAgree, ShortResponsesLetInOnce}
+use Rattle.domain_world.specs.Claims.ChannelKinds.{OpeningsNameTheirKind}
 use Rattle.domain_world.specs.Claims.Completeness.{EachSucceeds}
 use Rattle.domain_world.specs.Claims.Counts.{EachCallRaisesOnce}
-use Rattle.domain_world.specs.Claims.MarkedUnits.{AnswersHaveCalls, CallsAreMarked, RepliesAreMarked}
+use Rattle.domain_world.specs.Claims.MarkedUnits.{RepliesAreMarked}
 use Rattle.domain_world.specs.Claims.Names.{LetsInByName}
 use Rattle.domain_world.specs.Claims.NeverApart.{MembersAreNeverApart}
 use Rattle.domain_world.specs.Claims.OneByOne.{NoneClashes}
-use Rattle.domain_world.specs.Claims.OpeningReplies.{OpeningsAreMarked, RepliesAnswerOpenings, RepliesAreToOpenings}
-use Rattle.domain_world.specs.Claims.Replies.{RepliesCarryTheirJudgement}
+use Rattle.domain_world.specs.Claims.OpeningReplies.{OpeningsAreMarked, RepliesAreToOpenings}
 use Rattle.domain_world.specs.Claims.RequestNumbers.{RequestsHaveNumbers}
-use Rattle.domain_world.specs.Claims.SharedSequences.{OneTurnIsOut, SequencesAreOwn, SequencesAreShared}
-use Rattle.domain_world.specs.Claims.Statuses.{StatusesAreTold}
+use Rattle.domain_world.specs.Claims.SharedSequences.{SequencesAreShared}
 use Rattle.domain_world.specs.Past.{Past, past}
 use Rattle.domain_world.specs.Unforwarded.{CarriesOver, IsProvedAlone}
 use Rattle.domain_world.proofs.Unforwarded.ApartSeenLaws.{never_apart_so}
 use Rattle.domain_world.proofs.Unforwarded.ErasedBookLaws.{books_alone}
 use Rattle.domain_world.proofs.Unforwarded.ErasedLaws.{runs_alone}
 use Rattle.domain_world.proofs.Unforwarded.RunSeenLaws.{complete_so, one_by_one_so, schedule_seen}
-use Rattle.domain_world.proofs.Unforwarded.SeenLaws.{all_so, answered_so, call_marks_so, called_so, once_so, one_turn_so, only_so, opened_by_so, opened_marks_so, opened_so, own_so, reply_marks_so, seen, shared_so}
+use Rattle.domain_world.proofs.Unforwarded.SeenLaws.{all_so, answered_so, called_so, once_so, only_so, opened_by_so, opened_marks_so, reply_marks_so, seen, shared_so}
 
 module _ (plan : Plan) (moves : List Move) (nothing : NothingSeals plan) (is : IsUnforwarded plan moves) (alone : IsProvedAlone (alone_plan plan) moves) where
   abbrev run_seen : Past
@@ -57,12 +56,9 @@ module _ (plan : Plan) (moves : List Move) (nothing : NothingSeals plan) (is : I
 
   carried_over : IsProvedAlone plan moves
   carried_over = record {
-    opened = opened_so run_seen (on RepliesAnswerOpenings alone.opened);
+    opened_kinds = λ schedule. on OpeningsNameTheirKind (alone.opened_kinds (schedule_alone schedule));
     opened_by = λ schedule calm. opened_by_so run_seen (on RepliesAreToOpenings (alone.opened_by (schedule_alone schedule) (calm_so calm)));
     numbers = λ schedule. on RequestsHaveNumbers (alone.numbers (schedule_alone schedule));
-    alone = on TellsOfCallsAlone alone.alone;
-    statuses = on StatusesAreTold alone.statuses;
-    replies = on RepliesCarryTheirJudgement alone.replies;
     answered = λ schedule calm. answered_so run_seen (on RepliesAnswerCalls (alone.answered (schedule_alone schedule) (calm_so calm)));
     names = λ schedule calm. on LetsInByName (alone.names (schedule_alone schedule) (calm_so calm));
     only = λ schedule clear. only_so run_seen (on AcceptsOnlyGranted (alone.only (schedule_alone schedule) (clear_so clear)));
@@ -70,14 +66,10 @@ module _ (plan : Plan) (moves : List Move) (nothing : NothingSeals plan) (is : I
     keys = λ schedule clear. on KeysAgree (alone.keys (schedule_alone schedule) (clear_so clear));
     counts = λ schedule clear. on EachCallRaisesOnce (alone.counts (schedule_alone schedule) (clear_so clear));
     once = λ schedule clear. once_so run_seen (on ShortResponsesLetInOnce (alone.once (schedule_alone schedule) (clear_so clear)));
-    one_turn = one_turn_so run_seen (on OneTurnIsOut alone.one_turn);
-    own = own_so run_seen (on SequencesAreOwn alone.own);
     sequences = λ schedule clear. shared_so run_seen (on SequencesAreShared (alone.sequences (schedule_alone schedule) (clear_so clear)));
     called = λ schedule clear. called_so run_seen (on TurnsAreCalled (alone.called (schedule_alone schedule) (clear_so clear)));
     whole = λ schedule. on MarkedUnitsAreWhole (alone.whole (schedule_alone schedule));
-    have_calls = λ schedule. on AnswersHaveCalls (alone.have_calls (schedule_alone schedule));
     asks_for = λ schedule. on CallsAskForMessages (alone.asks_for (schedule_alone schedule));
-    call_marks = λ schedule. call_marks_so run_seen (on CallsAreMarked (alone.call_marks (schedule_alone schedule)));
     reply_marks = λ schedule. reply_marks_so run_seen (on RepliesAreMarked (alone.reply_marks (schedule_alone schedule)));
     opened_marks = λ schedule. opened_marks_so run_seen (on OpeningsAreMarked (alone.opened_marks (schedule_alone schedule)));
     complete = complete_so plan moves nothing is (on (λ (q : Past). EachSucceeds q moves) alone.complete);

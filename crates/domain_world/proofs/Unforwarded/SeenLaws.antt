@@ -17,9 +17,9 @@ use Rattle.world_moves.specs.Ends.{EndStates}
 use Rattle.world_moves.specs.Unforwarded.{alone_plan, erased, erased_controller, erased_ends, erased_world}
 use Rattle.domain_world.specs.Accepting.Sequences.{AnswersCall, AreSoFar, CallsOfTurns, IsMadeOn, RepliesAnswerCalls, TurnsAreCalled}
 use Rattle.domain_world.specs.Claims.{AcceptsAllGranted, AcceptsOnlyGranted, HasController, IsAccepted, IsGrantedBy, IsItsControllersAnswer, IsLetInShortly, IsToldIn, IsUnusedChallenge, ShortResponsesLetInOnce}
-use Rattle.domain_world.specs.Claims.MarkedUnits.{CallsAreMarked, IsMarkedAsCall, IsMarkedAsReply, RepliesAreMarked}
-use Rattle.domain_world.specs.Claims.OpeningReplies.{AnswersOpening, IsMarkedAsOpened, OpeningsAreMarked, RepliesAnswerOpenings, RepliesAreToOpenings}
-use Rattle.domain_world.specs.Claims.SharedSequences.{HasOneTurnOut, IsBeforeTurn, ChannelIsKept, OneTurnIsOut, SequenceIsOwn, SequenceIsShared, SequencesAreOwn, SequencesAreShared, ChannelStands, timestamps_on}
+use Rattle.domain_world.specs.Claims.MarkedUnits.{IsMarkedAsReply, RepliesAreMarked}
+use Rattle.domain_world.specs.Claims.OpeningReplies.{AnswersOpening, IsMarkedAsOpened, OpeningsAreMarked, RepliesAreToOpenings}
+use Rattle.domain_world.specs.Claims.SharedSequences.{IsBeforeTurn, ChannelIsKept, SequenceIsOwn, SequenceIsShared, SequencesAreShared, ChannelStands, timestamps_on}
 use Rattle.domain_world.specs.Past.{Past}
 use Rattle.domain_world.proofs.Unforwarded.ErasedBookLaws.{asked_same}
 use Rattle.domain_world.proofs.Unforwarded.ErasedLaws.{get_mapped, peer_same}
@@ -35,9 +35,6 @@ there controllers at c is = get_mapped erased_controller controllers at ∙ ap (
 -- ---- what controllers judge, grant and keep
 
 -- ---- replies
-
-pub opened_so : (p : Past) → RepliesAnswerOpenings (seen p) → RepliesAnswerOpenings p
-opened_so p x = record { replies = x.replies; unclashed = x.unclashed }
 
 pub opened_by_so : (p : Past) → RepliesAreToOpenings (seen p) → RepliesAreToOpenings p
 opened_by_so p x = λ n one channel number request is mark.
@@ -71,21 +68,6 @@ reply_mark_so p j n m = record {
 pub reply_marks_so : (p : Past) → RepliesAreMarked (seen p) → RepliesAreMarked p
 reply_marks_so p x = all_weaker (λ (j : Judging). (n : ℕ) → j.source ≡ InUnit n → has_passed j.how ≡ true → IsMarkedAsReply (seen p) j n)
     (λ (j : Judging). (n : ℕ) → j.source ≡ InUnit n → has_passed j.how ≡ true → IsMarkedAsReply p j n) p.book.judged (λ j has. λ n is passed. reply_mark_so p j n (has n is passed)) x
-
-call_mark_so : (p : Past) (member n : ℕ) → IsMarkedAsCall (seen p) member n → IsMarkedAsCall p member n
-call_mark_so p member n m = record {
-  sent = m.sent;
-  there = m.there;
-  channel = m.channel;
-  number = m.number;
-  timestamp = m.timestamp;
-  mark = m.mark;
-  controller = m.controller ∙ asked_same member p.world.state;
-}
-
-pub call_marks_so : (p : Past) → CallsAreMarked (seen p) → CallsAreMarked p
-call_marks_so p x = all_weaker (λ (message : MessageTaken). (n : ℕ) → message.call ≡ Some n → IsMarkedAsCall (seen p) message.member n)
-    (λ (message : MessageTaken). (n : ℕ) → message.call ≡ Some n → IsMarkedAsCall p message.member n) p.book.messages (λ message has. λ n is. call_mark_so p message.member n (has n is)) x
 
 -- ---- whom members let in
 
@@ -163,11 +145,6 @@ once_so p x = λ nt hash.
 
 -- ---- sequences
 
-pub one_turn_so : (p : Past) → OneTurnIsOut (seen p) → OneTurnIsOut p
-one_turn_so p x = λ member m running is runs.
-    let out : HasOneTurnOut (erased p.world.state) member running = x member m running is runs in
-    record { out = out.out; few = out.few; waits = out.waits }
-
 stands_seen : (s : State) (who : RequesterId) (channel : ChannelIdentity) (o : SecureChannelState) → ChannelStands s who channel o → ChannelStands (erased s) who channel o
 stands_seen s (OfMember member) channel o st = record {
   requester = st.requester;
@@ -184,9 +161,6 @@ turn_seen s (OfMember member) channel o st = refl
 
 own_one : (p : Past) (who : RequesterId) → SequenceIsOwn (seen p) who → SequenceIsOwn p who
 own_one p who x = λ channel o st. x channel o (stands_seen p.world.state who channel o st)
-
-pub own_so : (p : Past) → SequencesAreOwn (seen p) → SequencesAreOwn p
-own_so p x = λ who. own_one p who (x who)
 
 kept_seen : (s : State) (controller : ℕ) (computer : List ℕ) (c : SecureChannelState) → ChannelIsKept s controller computer c → ChannelIsKept (erased s) controller computer c
 kept_seen s controller computer c k = record {

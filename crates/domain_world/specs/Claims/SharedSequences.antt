@@ -10,13 +10,15 @@ use Rattle.channel_client.specs.Turns.{is_out}
 use Rattle.channel_client.specs.declared.state.Pending.{Pending}
 use Rattle.channel_events.specs.Seeds.{channel_seed}
 use Rattle.domain_controller.specs.State.{State as ControllerState}
+use Rattle.domain_controller.specs.TrustLaws.{OneIsOut}
 use Rattle.domain_controller.specs.declared.state.Running.{Running as ControllerRunning}
 use Rattle.member_server.specs.Dials.{IsWaiting}
 use Rattle.member_server.specs.Laws.{is_dialled}
 use Rattle.member_server.specs.State.{State as MemberState}
 use Rattle.member_server.specs.declared.state.Running.{Running as MemberRunning}
 use Rattle.step_notes.specs.Records.{ChannelTurn, InUnit, Judging, Outside, RequesterId, Source, same_requester}
-use Rattle.world_moves.specs.declared.links.EndId.TheVariants.{Member}
+use Rattle.world_moves.specs.declared.links.EndId.{EndId}
+use Rattle.world_moves.specs.declared.links.EndId.TheVariants.{Controller, Member}
 use Rattle.world_moves.specs.declared.state.State.{State}
 use Rattle.world_moves.specs.declared.state.WaitingDial.{WaitingDial}
 use Rattle.world_moves.specs.Links.{same_end}
@@ -27,22 +29,38 @@ use Rattle.channel_client.specs.declared.state.Standing.TheVariants as standing
 
 -- ---- one turn at a time
 
--- the dials of that member that wait
-abbrev pub dials_of : ℕ → List WaitingDial → List WaitingDial
-dials_of member dials = filter (λ (dial : WaitingDial). same_end dial.end (Member member)) dials
+-- the dials of that end that wait
+abbrev pub dials_of : EndId → List WaitingDial → List WaitingDial
+dials_of end dials = filter (λ (dial : WaitingDial). same_end dial.end end) dials
 
 -- A turn is out exactly where its dial waits or its link is open. One dial of the member waits at most, which is that
 -- of its turn: no link of a turn is open then.
 pub record HasOneTurnOut (s : State) (member : ℕ) (running : MemberRunning) : Type 0 where
   pub out : is_out running.logons.channel ≡ is_dialled running.dialling
-  pub few : length (dials_of member s.dials) ≤ 1
-  pub waits : 1 ≤ length (dials_of member s.dials) → IsWaiting running.dialling
+  pub few : length (dials_of (Member member) s.dials) ≤ 1
+  pub waits : 1 ≤ length (dials_of (Member member) s.dials) → IsWaiting running.dialling
 
--- at most one turn is out at each member
-abbrev pub OneTurnIsOut : Past → Type 0
-OneTurnIsOut past =
+-- The same of a controller, over all its trusts: a turn is out exactly where the dial of the turn waits or its link is
+-- open, and then of that trust alone.
+pub record HasOneTrustTurnOut (s : State) (controller : ℕ) (c : ControllerState) : Type 0 where
+  pub one : OneIsOut c.trusting
+  pub few : length (dials_of (Controller controller) s.dials) ≤ 1
+  pub waits : 1 ≤ length (dials_of (Controller controller) s.dials) → IsWaiting c.trusting.dialling
+
+abbrev pub OneMemberTurnIsOut : Past → Type 0
+OneMemberTurnIsOut past =
     (member : ℕ) (m : MemberState) (running : MemberRunning) → slice_get past.world.state.ends.members member ≡ Some m → m.running ≡ Some running →
     HasOneTurnOut past.world.state member running
+
+abbrev pub OneTrustTurnIsOut : Past → Type 0
+OneTrustTurnIsOut past =
+    (controller : ℕ) (c : ControllerState) (running : ControllerRunning) → slice_get past.world.state.ends.controllers controller ≡ Some c → c.running ≡ Some running →
+    HasOneTrustTurnOut past.world.state controller c
+
+-- at most one turn is out at each member, and at each controller
+pub record OneTurnIsOut (past : Past) : Type 0 where
+  pub members : OneMemberTurnIsOut past
+  pub controllers : OneTrustTurnIsOut past
 
 -- ---- the side of who asks
 

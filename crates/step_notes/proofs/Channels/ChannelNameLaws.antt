@@ -628,7 +628,7 @@ openings = record {
       opening_asked (hear s.turn unit s.next_call) controller s client server frames
       (bind_heard s.turn will.asks.number will.asks.place (auth_call s.caller client server) unit s.next_call will.asks.turn) will.half sent;
   opens = λ s client server w line before later expects.
-      ap (λ (channel : Option ChannelIdentity). opening channel w line.call) (opens_named w.controller s client server before expects);
+      ap (λ (channel : Option ChannelIdentity). opening channel w line.call s.caller.kind) (opens_named w.controller s client server before expects);
   keeps = λ controller s client server line talk name now before later left expects is.
       subst (λ (d : Desk). HasChannel d.work.computers (half_channel controller s client server)) (some_is _ _ is)
       (opening_keeps controller before.table line (auth_of s client server) before.work (half_channel controller s client server)
@@ -756,7 +756,7 @@ passing_clear j channel sent is = own_passes channel (unit_in j.source) sent is
 exchanges : ExchangesHaveNoClash
 exchanges = record {
   opening = λ s client server w line before later sent expects is.
-      ap (λ (channel : Option ChannelIdentity). clashes (opening channel w line.call).checked (unit_in w.source) sent) (opens_named w.controller s client server before expects)
+      ap (λ (channel : Option ChannelIdentity). clashes (opening channel w line.call s.caller.kind).checked (unit_in w.source) sent) (opens_named w.controller s client server before expects)
       ∙ own_passes (half_channel w.controller s client server) (unit_in w.source) sent is;
   opened = λ controller s unit client server number sent half taken_so is.
       opened_clear controller s _ client server number sent half (opened_acts (hear s.turn unit s.next_call) controller s taken_so) is;

@@ -47,9 +47,9 @@ one_more actions link bytes = flat_map-append link_sent actions (action.Send lin
 
 -- ---- a unit that a controller answers has one mark
 
-opening_sends : (channel : Option ChannelIdentity) (w : Where) (number : ℕ) → (opening channel w number).sends ≡ true
-opening_sends None w number = refl
-opening_sends (Some channel) w number = refl
+opening_sends : (channel : Option ChannelIdentity) (w : Where) (number kind : ℕ) → (opening channel w number kind).sends ≡ true
+opening_sends None w number kind = refl
+opening_sends (Some channel) w number kind = refl
 
 passing_sends : (channel : Option ChannelIdentity) (j : Judging) → (passing channel j).sends ≡ true
 passing_sends None j = refl
@@ -96,7 +96,7 @@ module _ (link : ℕ) where
         answered answers plain d.work.actions (answer_challenge d.table line c server d.work).actions line.link on refl has (ap links_sent its.actions ∙ one_more d.work.actions line.link its.bytes);
     authenticate = λ answers d left line c on has.
         let its : Replies line d.work (answer_authenticate d.table line c d.work) = authenticate_replies d.table line c d.work in
-        answered answers (opening (opened_by w.controller c d) w line.call) d.work.actions (answer_authenticate d.table line c d.work).actions line.link on (opening_sends (opened_by w.controller c d) w line.call) has
+        answered answers (opening (opened_by w.controller c d) w line.call c.channel) d.work.actions (answer_authenticate d.table line c d.work).actions line.link on (opening_sends (opened_by w.controller c d) w line.call c.channel) has
         (ap links_sent its.actions ∙ one_more d.work.actions line.link its.bytes);
     judged = λ answers d left line c on has.
         let after : Desk = answer_judged c name now line d in

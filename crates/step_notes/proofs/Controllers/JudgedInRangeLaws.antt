@@ -64,9 +64,9 @@ use Rattle.domain_controller.specs.declared.hearing.Heard.TheVariants as heard
 abbrev AnswerFits : Answered → Type 0
 AnswerFits one = IfThere IsJudgedInRange one.judging
 
-opening_fits : (channel : Option ChannelIdentity) (w : Where) (number : ℕ) → AnswerFits (opening channel w number)
-opening_fits None w number = tt
-opening_fits (Some channel) w number = tt
+opening_fits : (channel : Option ChannelIdentity) (w : Where) (number kind : ℕ) → AnswerFits (opening channel w number kind)
+opening_fits None w number kind = tt
+opening_fits (Some channel) w number kind = tt
 
 passing_fits : (channel : Option ChannelIdentity) (j : Judging) → IsJudgedInRange j → AnswerFits (passing channel j)
 passing_fits None j is = is
@@ -81,7 +81,7 @@ answer_fits (heard.Close cause) w before after name moment table = tt
 answer_fits (heard.Answer bytes talk) w before after name moment table = tt
 answer_fits (heard.Waits talk) w before after name moment table = tt
 answer_fits (heard.Asked line (call.Challenge c) talk) w before after name moment table = tt
-answer_fits (heard.Asked line (call.Authenticate c) talk) w before after name moment table = opening_fits (opened_by w.controller c before) w line.call
+answer_fits (heard.Asked line (call.Authenticate c) talk) w before after name moment table = opening_fits (opened_by w.controller c before) w line.call c.channel
 answer_fits (heard.Asked line (call.Judged c) talk) w before after name moment table =
     let j : Judging = judging_of w line c before after in
     judging_fits (has_passed j.how) j (record { table = table; name = name; moment = moment })

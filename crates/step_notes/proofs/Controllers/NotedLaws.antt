@@ -63,7 +63,7 @@ pub record StaysThrough (w : Where) (link : ℕ) (name : List ℕ) (now : ℕ) (
   pub challenge : (answers : List Answered) (d : Desk) (left : List (List ℕ)) (line : Line) (c : ChallengeCall) (server : List ℕ) → line.link ≡ link →
       Holds answers d (server ∷ left) → Holds (answers ++ plain ∷ []) (desk d.table (answer_challenge d.table line c server d.work)) left
   pub authenticate : (answers : List Answered) (d : Desk) (left : List (List ℕ)) (line : Line) (c : AuthCall) → line.link ≡ link → Holds answers d left →
-      Holds (answers ++ opening (opened_by w.controller c d) w line.call ∷ []) (desk d.table (answer_authenticate d.table line c d.work)) left
+      Holds (answers ++ opening (opened_by w.controller c d) w line.call c.channel ∷ []) (desk d.table (answer_authenticate d.table line c d.work)) left
   pub judged : (answers : List Answered) (d : Desk) (left : List (List ℕ)) (line : Line) (c : JudgedCall) → line.link ≡ link → Holds answers d left →
       Holds (answers ++ judged_answer (judging_of w line c d (Some (answer_judged c name now line d))) ∷ []) (answer_judged c name now line d) left
 

@@ -16,11 +16,12 @@ use Rattle.domain_controller.specs.Machine.{Desk, account_for, answer_authentica
 use Rattle.controller_calls.specs.declared.line.Line.{Line}
 use Rattle.controller_calls.specs.declared.state.ChallengePair.{ChallengePair}
 use Rattle.controller_calls.specs.declared.state.Work.{Work}
+use Rattle.channel_events.specs.Marks.{Mark}
 use Rattle.step_notes.specs.ChannelNames.{sends_in, sent_by}
 use Rattle.step_notes.specs.ControllerNotes.{Answered, Where, channel_in, has_passed, identity_by, judged_answer, judged_in, judging_by, judging_of, new_actions, opened_account, opened_by, opened_mark, opening, passing, plain, reply_mark, silent}
 use Rattle.step_notes.specs.Judged.{channel_if}
 use Rattle.step_notes.specs.Records.{InUnit, Judging, Outside, Source, computer_named, unit_in, given_in}
-use Rattle.step_notes.specs.ReplySends.{AreSentFor, CarriesReply, IsItsReply, IsOpeningReply, IsSentIf, RepliesAreSentAsJudged, standing_at, done_on}
+use Rattle.step_notes.specs.ReplySends.{AreSentBy, AreSentFor, CarriesReply, IsItsReply, IsOpeningReply, IsSentBy, RepliesAreSentAsJudged, standing_at, done_on}
 use Rattle.controller_calls.specs.declared.calls.JudgedCall.{JudgedCall}
 use Rattle.step_notes.proofs.Controllers.NotedLaws.{NotedFact, StaysThrough, step_says}
 use Rattle.step_notes.proofs.Controllers.OpenedLaws.{opening_noted}
@@ -35,23 +36,23 @@ use Rattle.outside.specs.declared.action.Action.TheVariants as action
 
 -- ---- what is sent
 
-one_more : (actions : List Action) (link : ℕ) (bytes : List ℕ) → sends_in (actions ++ action.Send link bytes ∷ []) ≡ sends_in actions ++ bytes ∷ []
+pub one_more : (actions : List Action) (link : ℕ) (bytes : List ℕ) → sends_in (actions ++ action.Send link bytes ∷ []) ≡ sends_in actions ++ bytes ∷ []
 one_more actions link bytes = flat_map-append sent_by actions (action.Send link bytes ∷ [])
 
 -- ---- the reply to an opening
 
 -- what opens a channel is the reply that does, under that number
-abbrev OpensBy : ℕ → Option SecureChannelState → List ℕ → Type 0
+abbrev pub OpensBy : ℕ → Option SecureChannelState → List ℕ → Type 0
 OpensBy number None bytes = Unit {0}
 OpensBy number (Some channel) bytes = IsOpeningReply number bytes
 
 -- one unit more, by the channel that is opened, if one is
-record SendsOpening (opened : Option SecureChannelState) (line : Line) (before after : Work) : Type 0 where
-  bytes : List ℕ
-  actions : after.actions ≡ before.actions ++ action.Send line.link bytes ∷ []
-  opens : OpensBy line.call opened bytes
+pub record SendsOpening (opened : Option SecureChannelState) (line : Line) (before after : Work) : Type 0 where
+  pub bytes : List ℕ
+  pub actions : after.actions ≡ before.actions ++ action.Send line.link bytes ∷ []
+  pub opens : OpensBy line.call opened bytes
 
-opening_sends : (found : Option Account) (waiting : Option ChallengePair) (line : Line) (c : AuthCall) (taken : Work) →
+pub opening_sends : (found : Option Account) (waiting : Option ChallengePair) (line : Line) (c : AuthCall) (taken : Work) →
     SendsOpening (opened_account found waiting c) line taken (judge_account found waiting line c taken)
 opening_sends found waiting line c taken =
     opening_noted (λ opened later. SendsOpening opened line taken later) found waiting line c taken (record {
@@ -78,10 +79,10 @@ opened_carries : (unit : Option ℕ) (channel : ChannelIdentity) (number : ℕ) 
 opened_carries None channel number bytes opens = tt
 opened_carries (Some unit) channel number bytes opens = opens
 
-opening_sent : (opened : Option SecureChannelState) (w : Where) (computer : List ℕ) (number : ℕ) (bytes : List ℕ) → OpensBy number opened bytes →
-    AreSentFor (opening (identity_by w.controller computer opened) w number ∷ []) (bytes ∷ [])
-opening_sent None w computer number bytes opens = (tt, tt)
-opening_sent (Some channel) w computer number bytes opens = (opened_carries (unit_in w.source) (channel_of w.controller computer channel) number bytes opens, tt)
+pub opening_sent : (opened : Option SecureChannelState) (w : Where) (computer : List ℕ) (number kind : ℕ) (bytes : List ℕ) → OpensBy number opened bytes →
+    AreSentFor (opening (identity_by w.controller computer opened) w number kind ∷ []) (bytes ∷ [])
+opening_sent None w computer number kind bytes opens = (tt, tt)
+opening_sent (Some channel) w computer number kind bytes opens = (opened_carries (unit_in w.source) (channel_of w.controller computer channel) number bytes opens, tt)
 
 -- ---- a call on a secure channel
 
@@ -107,12 +108,12 @@ same_sent kept other how more link at bytes sent are too is =
     sym (read_behind sent_by (λ text. refl) [] kept how link bytes are) ∙ ap sends_in is ∙ read_behind sent_by (λ text. refl) [] other more at sent too in cc
 
 -- what is sent for a call
-record SendsFor (one : Answered) (old new : List Action) : Type 0 where
-  sent : List (List ℕ)
-  is : sends_in new ≡ sends_in old ++ sent
-  each : AreSentFor (one ∷ []) sent
+pub record SendsFor (one : Answered) (old new : List Action) : Type 0 where
+  pub sent : List (List ℕ)
+  pub is : sends_in new ≡ sends_in old ++ sent
+  pub each : AreSentFor (one ∷ []) sent
 
-call_sent : (w : Where) (line : Line) (c : JudgedCall) (d : Desk) →
+pub call_sent : (w : Where) (line : Line) (c : JudgedCall) (d : Desk) →
     SendsFor (judged_answer (judging_of w line c d (Some (answer_judged c w.name w.moment line d)))) d.work.actions (answer_judged c w.name w.moment line d).work.actions
 call_sent w line c d =
     let after : Desk = answer_judged c w.name w.moment line d in
@@ -136,52 +137,55 @@ call_sent w line c d =
 
 -- ---- the units of a stream
 
-if_joined : (sends : Bool) (one : Answered) (new more : List (List ℕ)) (Holds Later : List (List ℕ) → Type 0) → ((rest : List (List ℕ)) → Holds rest → Later (rest ++ more)) →
-    IsSentIf sends one new Holds → IsSentIf sends one (new ++ more) Later
-if_joined false one new more Holds Later so is = so new is
-if_joined true one [] more Holds Later so is = absurd is
-if_joined true one (bytes ∷ new) more Holds Later so is = (is.0, so new is.1)
+module _ (Carries : Mark → Option Judging → List ℕ → Type 0) where
+  if_joined : (sends : Bool) (one : Answered) (new more : List (List ℕ)) (Holds Later : List (List ℕ) → Type 0) → ((rest : List (List ℕ)) → Holds rest → Later (rest ++ more)) →
+      IsSentBy Carries sends one new Holds → IsSentBy Carries sends one (new ++ more) Later
+  if_joined false one new more Holds Later so is = so new is
+  if_joined true one [] more Holds Later so is = absurd is
+  if_joined true one (bytes ∷ new) more Holds Later so is = (is.0, so new is.1)
 
-joined : (answers : List Answered) (one : Answered) (new more : List (List ℕ)) → AreSentFor answers new → AreSentFor (one ∷ []) more → AreSentFor (answers ++ one ∷ []) (new ++ more)
-joined [] one [] more each last = last
-joined [] one (bytes ∷ new) more each last = absurd each
-joined (first ∷ answers) one new more each last =
-    if_joined first.sends first new more (λ (rest : List (List ℕ)). AreSentFor answers rest) (λ (rest : List (List ℕ)). AreSentFor (answers ++ one ∷ []) rest)
-    (λ rest is. joined answers one rest more is last) each
+  joined : (answers : List Answered) (one : Answered) (new more : List (List ℕ)) → AreSentBy Carries answers new → AreSentBy Carries (one ∷ []) more →
+      AreSentBy Carries (answers ++ one ∷ []) (new ++ more)
+  joined [] one [] more each last = last
+  joined [] one (bytes ∷ new) more each last = absurd each
+  joined (first ∷ answers) one new more each last =
+      if_joined first.sends first new more (λ (rest : List (List ℕ)). AreSentBy Carries answers rest) (λ (rest : List (List ℕ)). AreSentBy Carries (answers ++ one ∷ []) rest)
+      (λ rest is. joined answers one rest more is last) each
+
+  -- one unit more
+  pub further : (answers : List Answered) (one : Answered) (old new : List Action) (more : List (List ℕ)) → AreSentBy Carries answers (sends_in old) → sends_in new ≡ sends_in old ++ more →
+      AreSentBy Carries (one ∷ []) more → AreSentBy Carries (answers ++ one ∷ []) (sends_in new)
+  further answers one old new more each is last =
+      subst (λ (sent : List (List ℕ)). AreSentBy Carries (answers ++ one ∷ []) sent) (sym is) (joined answers one (sends_in old) more each last)
 
 -- what was sent so far is what these units come to
 abbrev Sent : NotedFact
 Sent answers d left = AreSentFor answers (sends_in d.work.actions)
-
-further : (answers : List Answered) (one : Answered) (old new : List Action) (more : List (List ℕ)) → AreSentFor answers (sends_in old) → sends_in new ≡ sends_in old ++ more →
-    AreSentFor (one ∷ []) more → AreSentFor (answers ++ one ∷ []) (sends_in new)
-further answers one old new more each is last =
-    subst (λ (sent : List (List ℕ)). AreSentFor (answers ++ one ∷ []) sent) (sym is) (joined answers one (sends_in old) more each last)
 
 sent_stay : (w : Where) (link : ℕ) → StaysThrough w link w.name w.moment Sent
 sent_stay w link = record {
   closes = λ answers d left cause each.
       subst (λ (sent : List (List ℕ)). AreSentFor answers sent)
       (sym (flat_map-append sent_by d.work.actions (action.Close link cause ∷ []) ∙ append-nil (sends_in d.work.actions))) each;
-  waits = λ answers d left each. further answers silent d.work.actions d.work.actions [] each (sym (append-nil (sends_in d.work.actions))) tt;
+  waits = λ answers d left each. further CarriesReply answers silent d.work.actions d.work.actions [] each (sym (append-nil (sends_in d.work.actions))) tt;
   sends = λ answers d left bytes each.
-      further answers plain d.work.actions (d.work.actions ++ action.Send link bytes ∷ []) (bytes ∷ []) each (one_more d.work.actions link bytes) (tt, tt);
+      further CarriesReply answers plain d.work.actions (d.work.actions ++ action.Send link bytes ∷ []) (bytes ∷ []) each (one_more d.work.actions link bytes) (tt, tt);
   challenge = λ answers d left line c server on each.
       let its : Replies line d.work (answer_challenge d.table line c server d.work) = challenge_replies d.table line c server d.work in
-      further answers plain d.work.actions (answer_challenge d.table line c server d.work).actions (its.bytes ∷ []) each
+      further CarriesReply answers plain d.work.actions (answer_challenge d.table line c server d.work).actions (its.bytes ∷ []) each
       (ap sends_in its.actions ∙ one_more d.work.actions line.link its.bytes) (tt, tt);
   authenticate = λ answers d left line c on each.
       let found : Option Account = account_for d.table c in
       let waiting : Option ChallengePair = lookup same_name c.computer d.work.computers.pending in
       let its : SendsOpening (opened_account found waiting c) line (take_pair c.computer d.work) (answer_authenticate d.table line c d.work) =
       opening_sends found waiting line c (take_pair c.computer d.work) in
-      further answers (opening (opened_by w.controller c d) w line.call) d.work.actions (answer_authenticate d.table line c d.work).actions (its.bytes ∷ []) each
-      (ap sends_in its.actions ∙ one_more d.work.actions line.link its.bytes) (opening_sent (opened_account found waiting c) w c.computer line.call its.bytes its.opens);
+      further CarriesReply answers (opening (opened_by w.controller c d) w line.call c.channel) d.work.actions (answer_authenticate d.table line c d.work).actions (its.bytes ∷ []) each
+      (ap sends_in its.actions ∙ one_more d.work.actions line.link its.bytes) (opening_sent (opened_account found waiting c) w c.computer line.call c.channel its.bytes its.opens);
   judged = λ answers d left line c on each.
       let after : Desk = answer_judged c w.name w.moment line d in
       let one : Answered = judged_answer (judging_of w line c d (Some after)) in
       let its : SendsFor one d.work.actions after.work.actions = call_sent w line c d in
-      further answers one d.work.actions after.work.actions its.sent each its.is its.each;
+      further CarriesReply answers one d.work.actions after.work.actions its.sent each its.is its.each;
 }
 
 -- ---- a step

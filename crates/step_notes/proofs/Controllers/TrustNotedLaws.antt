@@ -66,7 +66,7 @@ pub record TrustStaysThrough (w : Where) (link : ℕ) (name : List ℕ) (now : �
       Holds answers d (server ∷ left) →
       Holds (answers ++ plain ∷ []) (with_queues d.work.queues (desk d.table (answer_challenge d.table line c server d.work.work))) left
   pub authenticate : (answers : List Answered) (d : TrustDesk) (left : List (List ℕ)) (line : Line) (c : AuthCall) → line.link ≡ link → Holds answers d left →
-      Holds (answers ++ opening (opened_by w.controller c (base_desk d)) w line.call ∷ [])
+      Holds (answers ++ opening (opened_by w.controller c (base_desk d)) w line.call c.channel ∷ [])
       (with_queues d.work.queues (desk d.table (answer_authenticate d.table line c d.work.work))) left
   pub judged : (answers : List Answered) (d : TrustDesk) (left : List (List ℕ)) (line : Line) (c : JudgedCall) → line.link ≡ link → Holds answers d left →
       let after : TrustDesk = answer_trust_call c name now line d in
@@ -122,12 +122,12 @@ module _ (w : Where) (link : ℕ) (name : List ℕ) (now : ℕ) (Holds : TrustNo
 -- ---- the next turn leaves what is kept of computers
 
 -- a dial comes behind the actions, where one starts
-record LeavesOn (before after : Parts) : Type 0 where
+pub record LeavesOn (before after : Parts) : Type 0 where
   pub dial : Option (List ℕ)
   pub actions : after.work.work.actions ≡ before.work.work.actions ++ dial_of dial
   pub computers : after.work.work.computers ≡ before.work.work.computers
 
-abbrev NextLeaves : Parts → Result (Part Parts) StepRefused → Type 0
+abbrev pub NextLeaves : Parts → Result (Part Parts) StepRefused → Type 0
 NextLeaves before (Err why) = Unit {0}
 NextLeaves before (Ok part) = LeavesOn before part.value
 
@@ -154,7 +154,7 @@ at_leaves : (first : Option ℕ) (trusts : List Trust) (now : ℕ) (parts : Part
 at_leaves None trusts now parts left = no_dial_more parts
 at_leaves (Some trust) trusts now parts left = start_leaves _ _ trust now parts left
 
-next_leaves : (idle : Bool) (trusts : List Trust) (now : ℕ) (parts : Parts) (left : List (List ℕ)) → NextLeaves parts (next_if idle trusts now parts left)
+pub next_leaves : (idle : Bool) (trusts : List Trust) (now : ℕ) (parts : Parts) (left : List (List ℕ)) → NextLeaves parts (next_if idle trusts now parts left)
 next_leaves false trusts now parts left = no_dial_more parts
 next_leaves true trusts now parts left = at_leaves (first_waiting parts.work.queues.requesters) trusts now parts left
 

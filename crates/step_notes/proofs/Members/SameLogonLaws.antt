@@ -1,7 +1,7 @@
 -- The units on a member's accepted link that leave its logons as they are, and put actions behind those so far: all but
 -- the AUTHENTICATE; and the outcome of a logon, which leaves the others so.
 -- It serves `calls_carry_their_logon`, `requests_come_first`.
-use Rattle.std.proofs.Common.{◌≡◌, ℕ, ◌+◌, Bool, true, false, List, [], ◌∷◌, ◌++◌, Option, Some, None, Result, Ok, Err, refl, sym, ap, subst, ◌∙◌}
+use Rattle.std.proofs.Common.{◌≡◌, ℕ, Bool, true, false, List, [], ◌∷◌, ◌++◌, Option, Some, None, Result, Ok, Err, refl, sym, ap, subst, ◌∙◌}
 use Rattle.std.proofs.lemmas.List.{append_assoc, append-nil}
 use Rattle.outside.specs.declared.action.Action.{Action}
 use Rattle.rpc_units.specs.declared.refused.UnitRefused.{UnitRefused}

@@ -1,6 +1,6 @@
 -- The links of a member whose challenge hasn't served: nothing is bound on them, or a CHALLENGE was sent. Only
 -- there an AUTHENTICATE is taken, once a link. It serves `calls_carry_their_logon`, `requests_come_first`.
-use Rattle.std.proofs.Common.{◌≡◌, ◌≢◌, ℕ, ◌+◌, Bool, true, false, List, [], ◌∷◌, ◌++◌, Option, Some, None, Ok, Err, refl, sym, subst, ◌∙◌, if◌then◌else◌}
+use Rattle.std.proofs.Common.{◌≡◌, ◌≢◌, ℕ, Bool, true, false, List, [], ◌∷◌, ◌++◌, Option, Some, None, Ok, Err, refl, sym, subst, ◌∙◌, if◌then◌else◌}
 use Rattle.std.specs.Prelude.{flat_map}
 use Rattle.std.proofs.lemmas.Bool.{eqb-true, eqb-false}
 use Rattle.wire_base.specs.Maps.{lookup, put, take_out, same_number}

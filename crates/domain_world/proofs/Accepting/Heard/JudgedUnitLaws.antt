@@ -213,7 +213,7 @@ answer_holds Fits So (heard.Close cause) w d after fits is = tt
 answer_holds Fits So (heard.Answer bytes talk) w d after fits is = tt
 answer_holds Fits So (heard.Waits talk) w d after fits is = tt
 answer_holds Fits So (heard.Asked line (call.Challenge c) talk) w d after fits is = tt
-answer_holds Fits So (heard.Asked line (call.Authenticate c) talk) w d after fits is = opening_holds Fits (opened_by w.controller c d) w line.call
+answer_holds Fits So (heard.Asked line (call.Authenticate c) talk) w d after fits is = opening_holds Fits (opened_by w.controller c d) w line.call c.channel
 answer_holds Fits So (heard.Asked line (call.Judged asked) talk) w d after fits is =
     judging_holds Fits (has_passed (judging_of w line asked d after).how) (judging_of w line asked d after) (fits line asked is)
 

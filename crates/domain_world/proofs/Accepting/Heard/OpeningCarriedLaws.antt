@@ -1,5 +1,6 @@
 -- In every schedule each opening that a controller accepted, and that came in a unit of the bag, is the
--- NetrServerAuthenticate2 which that unit carries, whole, with its number. It serves `Proved.opened_by`.
+-- NetrServerAuthenticate2 which that unit carries, whole, with its number and the type that it names. It serves
+-- `Proved.opened_by` and `Proved.opened_kinds`.
 use Rattle.std.proofs.Common.{◌≡◌, ℕ, Bool, true, false, List, [], ◌∷◌, ◌++◌, map, Option, Some, None, slice_get, refl, sym, ap, subst, ◌∙◌}
 use Rattle.std.specs.List.{AllByRecursion}
 use Rattle.wire_base.specs.Maps.{lookup, same_number}
@@ -60,8 +61,8 @@ use Rattle.domain_world.proofs.Judgements.Openings.OpeningMarkLaws.{onto_all}
 
 -- ---- what is to hold
 
--- the opening is that of a unit of the bag that went to a controller, with its number
-pub record IsCarriedOpening (bag : List BagUnit) (number n : ℕ) : Type 0 where
+-- the opening is that of a unit of the bag that went to a controller, with its number and its type
+pub record IsCarriedOpening (bag : List BagUnit) (number kind n : ℕ) : Type 0 where
   pub carrier : BagUnit
   pub there : slice_get bag n ≡ Some carrier
   pub back : carrier.back ≡ false
@@ -69,21 +70,22 @@ pub record IsCarriedOpening (bag : List BagUnit) (number n : ℕ) : Type 0 where
   pub number_is : number ≡ whole.unit.call
   pub asked : AuthCall
   pub carried : call_carried whole.unit.body ≡ Some (call.Authenticate asked)
+  pub kind_is : kind ≡ asked.channel
 
 -- it came in that unit of the bag, if it came in one
-abbrev pub OpenedIf : List BagUnit → Source → ℕ → Type 0
-OpenedIf bag source number = (n : ℕ) → source ≡ InUnit n → IsCarriedOpening bag number n
+abbrev pub OpenedIf : List BagUnit → Source → (number kind : ℕ) → Type 0
+OpenedIf bag source number kind = (n : ℕ) → source ≡ InUnit n → IsCarriedOpening bag number kind n
 
 abbrev pub IsOpenedWell : List BagUnit → ChannelAccepted → Type 0
-IsOpenedWell bag one = OpenedIf bag one.source one.number
+IsOpenedWell bag one = OpenedIf bag one.source one.number one.kind
 
 abbrev pub OpensFit : BookFact
 OpensFit bag b = AllByRecursion (IsOpenedWell bag) b.accepted
 
 -- ---- the units of the bag stay
 
-opening_still : (old bag : List BagUnit) (number n : ℕ) → StillHas old bag → IsCarriedOpening old number n → IsCarriedOpening bag number n
-opening_still old bag number n still is =
+opening_still : (old bag : List BagUnit) (number kind n : ℕ) → StillHas old bag → IsCarriedOpening old number kind n → IsCarriedOpening bag number kind n
+opening_still old bag number kind n still is =
     let now : IsStill is.carrier bag n = still n is.carrier is.there in
     record {
       carrier = now.now;
@@ -93,33 +95,34 @@ opening_still old bag number n still is =
       number_is = is.number_is;
       asked = is.asked;
       carried = is.carried;
+      kind_is = is.kind_is;
     }
 
 opens_still : (old bag : List BagUnit) (b : Book) → StillHas old bag → OpensFit old b → OpensFit bag b
 opens_still old bag b still all =
-    all_weaker (IsOpenedWell old) (IsOpenedWell bag) b.accepted (λ one is n came. opening_still old bag one.number n still (is n came)) all
+    all_weaker (IsOpenedWell old) (IsOpenedWell bag) b.accepted (λ one is n came. opening_still old bag one.number one.kind n still (is n came)) all
 
 -- ---- what a controller hears
 
 -- an opening that is heard is so
-abbrev OpensSo : (ℕ → Type 0) → HeardUnit → Type 0
+abbrev OpensSo : ((number kind : ℕ) → Type 0) → HeardUnit → Type 0
 OpensSo So (heard.Close cause) = Unit {0}
 OpensSo So (heard.Answer bytes talk) = Unit {0}
 OpensSo So (heard.Waits talk) = Unit {0}
 OpensSo So (heard.Asked line (call.Challenge c) talk) = Unit {0}
-OpensSo So (heard.Asked line (call.Authenticate c) talk) = So line.call
+OpensSo So (heard.Asked line (call.Authenticate c) talk) = So line.call c.channel
 OpensSo So (heard.Asked line (call.Judged c) talk) = Unit {0}
 
-opens_any : (So : ℕ → Type 0) (what : HeardUnit) → ((number : ℕ) → So number) → OpensSo So what
+opens_any : (So : (number kind : ℕ) → Type 0) (what : HeardUnit) → ((number kind : ℕ) → So number kind) → OpensSo So what
 opens_any So (heard.Close cause) all = tt
 opens_any So (heard.Answer bytes talk) all = tt
 opens_any So (heard.Waits talk) all = tt
 opens_any So (heard.Asked line (call.Challenge c) talk) all = tt
-opens_any So (heard.Asked line (call.Authenticate c) talk) all = all line.call
+opens_any So (heard.Asked line (call.Authenticate c) talk) all = all line.call c.channel
 opens_any So (heard.Asked line (call.Judged c) talk) all = tt
 
-opens_of : (So : ℕ → Type 0) (unit : RpcUnit) (what : HeardUnit) →
-    ((number : ℕ) (c : AuthCall) → number ≡ unit.call → call_carried unit.body ≡ Some (call.Authenticate c) → So number) → IsCallOf unit what → OpensSo So what
+opens_of : (So : (number kind : ℕ) → Type 0) (unit : RpcUnit) (what : HeardUnit) →
+    ((number : ℕ) (c : AuthCall) → number ≡ unit.call → call_carried unit.body ≡ Some (call.Authenticate c) → So number c.channel) → IsCallOf unit what → OpensSo So what
 opens_of So unit (heard.Close cause) so is = tt
 opens_of So unit (heard.Answer bytes talk) so is = tt
 opens_of So unit (heard.Waits talk) so is = tt
@@ -140,38 +143,38 @@ judging_opens : (Fits : ChannelAccepted → Type 0) (passed : Bool) (j : Judging
 judging_opens Fits false j = tt
 judging_opens Fits true j = passing_opens Fits (channel_in j.controller (computer_named j.asked) j.checks) j
 
-opening_opens : (Fits : ChannelAccepted → Type 0) (channel : Option ChannelIdentity) (w : Where) (number : ℕ) → ((c : ChannelIdentity) → Fits (accepting w number c)) →
-    IfThere Fits (opening channel w number).accepted
-opening_opens Fits None w number fits = tt
-opening_opens Fits (Some channel) w number fits = fits channel
+opening_opens : (Fits : ChannelAccepted → Type 0) (channel : Option ChannelIdentity) (w : Where) (number kind : ℕ) → ((c : ChannelIdentity) → Fits (accepting w number kind c)) →
+    IfThere Fits (opening channel w number kind).accepted
+opening_opens Fits None w number kind fits = tt
+opening_opens Fits (Some channel) w number kind fits = fits channel
 
-answer_opens : (Fits : ChannelAccepted → Type 0) (So : ℕ → Type 0) (what : HeardUnit) (w : Where) (d : Desk) (after : Option Desk) →
-    ((number : ℕ) (c : ChannelIdentity) → So number → Fits (accepting w number c)) → OpensSo So what → IfThere Fits (heard_answer what w d after).accepted
+answer_opens : (Fits : ChannelAccepted → Type 0) (So : (number kind : ℕ) → Type 0) (what : HeardUnit) (w : Where) (d : Desk) (after : Option Desk) →
+    ((number kind : ℕ) (c : ChannelIdentity) → So number kind → Fits (accepting w number kind c)) → OpensSo So what → IfThere Fits (heard_answer what w d after).accepted
 answer_opens Fits So (heard.Close cause) w d after fits is = tt
 answer_opens Fits So (heard.Answer bytes talk) w d after fits is = tt
 answer_opens Fits So (heard.Waits talk) w d after fits is = tt
 answer_opens Fits So (heard.Asked line (call.Challenge c) talk) w d after fits is = tt
 answer_opens Fits So (heard.Asked line (call.Authenticate c) talk) w d after fits is =
-    opening_opens Fits (opened_by w.controller c d) w line.call (λ channel. fits line.call channel is)
+    opening_opens Fits (opened_by w.controller c d) w line.call c.channel (λ channel. fits line.call c.channel channel is)
 answer_opens Fits So (heard.Asked line (call.Judged c) talk) w d after fits is =
     judging_opens Fits (has_passed (judging_of w line c d after).how) (judging_of w line c d after)
 
 -- of all units that are served
-abbrev AllOpenSo : (ℕ → Type 0) → ℕ → List (ServedUnit Desk Talk) → Type 0
+abbrev AllOpenSo : ((number kind : ℕ) → Type 0) → ℕ → List (ServedUnit Desk Talk) → Type 0
 AllOpenSo So link units = AllByRecursion (λ (served : ServedUnit Desk Talk). OpensSo So (hear_unit link served.bytes served.talk)) units
 
-any_opens : (So : ℕ → Type 0) (link : ℕ) (units : List (ServedUnit Desk Talk)) → ((number : ℕ) → So number) → AllOpenSo So link units
+any_opens : (So : (number kind : ℕ) → Type 0) (link : ℕ) (units : List (ServedUnit Desk Talk)) → ((number kind : ℕ) → So number kind) → AllOpenSo So link units
 any_opens So link [] all = tt
 any_opens So link (served ∷ units) all = (opens_any So (hear_unit link served.bytes served.talk) all, any_opens So link units all)
 
-each_opens : (So : ℕ → Type 0) (link : ℕ) (unit : RpcUnit) (units : List (ServedUnit Desk Talk)) →
-    ((number : ℕ) (c : AuthCall) → number ≡ unit.call → call_carried unit.body ≡ Some (call.Authenticate c) → So number) →
+each_opens : (So : (number kind : ℕ) → Type 0) (link : ℕ) (unit : RpcUnit) (units : List (ServedUnit Desk Talk)) →
+    ((number : ℕ) (c : AuthCall) → number ≡ unit.call → call_carried unit.body ≡ Some (call.Authenticate c) → So number c.channel) →
     AllByRecursion (λ (served : ServedUnit Desk Talk). IsCallOf unit (hear_unit link served.bytes served.talk)) units → AllOpenSo So link units
 each_opens So link unit [] so all = tt
 each_opens So link unit (served ∷ units) so all = (opens_of So unit (hear_unit link served.bytes served.talk) so all.0, each_opens So link unit units so all.1)
 
-module _ (c : ControllerState) (s : State) (w : Delivery) (piece : List ℕ) (number : ℕ) (is : IsWholeCarried s number w piece) (So : ℕ → Type 0)
-    (so : (n : ℕ) (asked : AuthCall) → n ≡ is.send.unit.call → call_carried is.send.unit.body ≡ Some (call.Authenticate asked) → So n) where
+module _ (c : ControllerState) (s : State) (w : Delivery) (piece : List ℕ) (number : ℕ) (is : IsWholeCarried s number w piece) (So : (number kind : ℕ) → Type 0)
+    (so : (n : ℕ) (asked : AuthCall) → n ≡ is.send.unit.call → call_carried is.send.unit.body ≡ Some (call.Authenticate asked) → So n asked.channel) where
   link_opens : (found : Option (LinkState Talk)) (running : Running) →
       ((link : LinkState Talk) → found ≡ Some link → ListensWell (IsOfMember s.links) (IsMade s.links) w.link link) →
       AllOpenSo So w.link (units_at found w.link piece c running s.moment s.chances.left)
@@ -202,14 +205,14 @@ to_it true (ToMember one server) at apart is own = absurd cc
 
 unit_opens : (s : State) (number at : ℕ) (w : Delivery) (piece : List ℕ) (is : IsWholeCarried s number w piece) → AreOwn s.bag → IsAtSide s.links w.link w.back (Controller at) →
     IsPieceOf s number w piece → w.source ≡ InUnit number → (n : ℕ) (asked : AuthCall) → n ≡ is.send.unit.call →
-    call_carried is.send.unit.body ≡ Some (call.Authenticate asked) → OpenedIf s.bag w.source n
+    call_carried is.send.unit.body ≡ Some (call.Authenticate asked) → OpenedIf s.bag w.source n asked.channel
 unit_opens s number at w piece is own side came from n asked numbered carries other there =
     let same : number ≡ other = some_is number other (ap unit_in (sym from ∙ there)) in
     let one : came.unit ≡ is.unit = some_is came.unit is.unit (sym came.there ∙ is.there) in
     let route : side.route ≡ came.route = some_is side.route came.route (sym side.made ∙ came.made) in
     let back : w.back ≡ false =
     to_it w.back side.route at side.apart side.side (ap (λ (r : Route). is_own (kind_of r)) route ∙ ap is_own came.same_kind ∙ own number came.unit came.there) in
-    subst (λ (m : ℕ). IsCarriedOpening s.bag n m) same (record {
+    subst (λ (m : ℕ). IsCarriedOpening s.bag n asked.channel m) same (record {
       carrier = is.unit;
       there = is.there;
       back = ap (λ (u : BagUnit). u.back) (sym one) ∙ came.back ∙ back;
@@ -217,13 +220,14 @@ unit_opens s number at w piece is own side came from n asked numbered carries ot
       number_is = numbered;
       asked = asked;
       carried = carries;
+      kind_is = refl;
     })
 
 -- by where the bytes come from
 units_open : (source : Source) (c : ControllerState) (at : ℕ) (s : State) (w : Delivery) (piece : List ℕ) → w.source ≡ source → QuietState s → AreOwn s.bag → ControllerIsQuiet s.links c →
     IsAtSide s.links w.link w.back (Controller at) → CameFrom source s w piece → AllOpenSo (OpenedIf s.bag w.source) w.link (units_by c.running w.link piece c s.moment s.chances.left)
 units_open Outside c at s w piece is quiet kinds own side came =
-    any_opens (OpenedIf s.bag w.source) w.link (units_by c.running w.link piece c s.moment s.chances.left) (λ number n there. absurd (let never = sym is ∙ there in cc))
+    any_opens (OpenedIf s.bag w.source) w.link (units_by c.running w.link piece c s.moment s.chances.left) (λ number kind n there. absurd (let never = sym is ∙ there in cc))
 units_open (InUnit number) c at s w piece is quiet kinds own side came =
     let whole : IsWholeCarried s number w piece = whole_carried s number at w piece quiet.bag kinds side came in
     running_opens c s w piece number whole (OpenedIf s.bag w.source) (λ n asked numbered carries. unit_opens s number at w piece whole kinds side came is n asked numbered carries) c.running own.well
@@ -234,7 +238,7 @@ served_open : (bag : List BagUnit) (w : Where) (link : ℕ) (units : List (Serve
     AllByRecursion (λ (one : Answered). IfThere (IsOpenedWell bag) one.accepted) (map (answer_on link w) units)
 served_open bag w link [] all = tt
 served_open bag w link (unit ∷ units) all = (
-  answer_opens (IsOpenedWell bag) (OpenedIf bag w.source) (hear_unit link unit.bytes unit.talk) w unit.work (work_after unit.part) (λ number c is. is) all.0,
+  answer_opens (IsOpenedWell bag) (OpenedIf bag w.source) (hear_unit link unit.bytes unit.talk) w unit.work (work_after unit.part) (λ number kind c is. is) all.0,
   served_open bag w link units all.1,
 )
 

@@ -63,9 +63,9 @@ module _ (count : ℕ) where
   opened_known None channel number few = tt
   opened_known (Some unit) channel number few = few
 
-  opening_known : (channel : Option ChannelIdentity) (w : Where) (number : ℕ) → IfChannel channel → IsKnownMark (opening channel w number).mark
-  opening_known None w number few = tt
-  opening_known (Some channel) w number few = opened_known (unit_in w.source) channel number few
+  opening_known : (channel : Option ChannelIdentity) (w : Where) (number kind : ℕ) → IfChannel channel → IsKnownMark (opening channel w number kind).mark
+  opening_known None w number kind few = tt
+  opening_known (Some channel) w number kind few = opened_known (unit_in w.source) channel number few
 
   reply_known : (unit : Option ℕ) (channel : ChannelIdentity) (number : ℕ) → channel.controller < count → IsKnownMark (reply_mark unit channel number)
   reply_known None channel number few = tt
@@ -81,7 +81,7 @@ module _ (count : ℕ) where
 
   call_known : (c : ControllerCall) (line : Line) (w : Where) (before : Desk) (after : Option Desk) → w.controller < count → IsKnownMark (call_answer c line w before after).mark
   call_known (call.Challenge c) line w before after few = tt
-  call_known (call.Authenticate c) line w before after few = opening_known (opened_by w.controller c before) w line.call (by_known w.controller c.computer _ few)
+  call_known (call.Authenticate c) line w before after few = opening_known (opened_by w.controller c before) w line.call c.channel (by_known w.controller c.computer _ few)
   call_known (call.Judged c) line w before after few = judging_known (has_passed (judging_of w line c before after).how) (judging_of w line c before after) few
 
   heard_known : (what : Heard) (w : Where) (before : Desk) (after : Option Desk) → w.controller < count → IsKnownMark (heard_answer what w before after).mark

@@ -33,7 +33,7 @@ use Rattle.domain_world.proofs.Quiet.QuietRunLaws.{has_bytes}
 use Rattle.domain_world.proofs.Accepting.Turns.TurnNotedLaws.{IsMadeFor, unclashed as made_unless}
 use Rattle.domain_world.proofs.Frames.BagFrameLaws.{IsOfUnit}
 use Rattle.domain_world.proofs.Moves.PlacedLaws.{bytes_in}
-use Rattle.domain_world.proofs.Judgements.Openings.OpeningReplyLaws.{replies_answer_openings}
+use Rattle.domain_world.proofs.Judgements.Openings.EveryOpeningLaws.{replies_answer_openings}
 use Rattle.domain_world.proofs.Calls.MarkWayLaws.{marks_have_their_way}
 use Rattle.domain_controller.proofs.TrustPlaceLaws.{got_all}
 
@@ -47,11 +47,11 @@ no_opening opnum stub timestamp c stamped is =
 -- ---- which mark the unit of an opening has
 
 -- that of the opening of a channel, with that number
-record IsOpeningMark (mark : Mark) (named : ChannelIdentity) (number : ℕ) : Type 0 where
-  is : mark ≡ Opening named number
+pub record IsOpeningMark (mark : Mark) (named : ChannelIdentity) (number : ℕ) : Type 0 where
+  pub is : mark ≡ Opening named number
 
-module _ (bag : List BagUnit) (number n : ℕ) (carried : IsCarriedOpening bag number n) (are : AreBytes carried.carrier.bytes) (named : ChannelIdentity) where
-  marked_opening : (mark : Mark) → mark_channel mark ≡ Some named → FitsMark carried.carrier mark → IsItsWay carried.carrier.back mark → IsOpeningMark mark named number
+module _ (bag : List BagUnit) (number kind n : ℕ) (carried : IsCarriedOpening bag number kind n) (are : AreBytes carried.carrier.bytes) (named : ChannelIdentity) where
+  pub marked_opening : (mark : Mark) → mark_channel mark ≡ Some named → FitsMark carried.carrier mark → IsItsWay carried.carrier.back mark → IsOpeningMark mark named number
   marked_opening Plain of fits way = absurd (let x = of in cc)
   marked_opening (Opening channel other) of fits way =
       let sent : IsRequestSent other 15 carried.carrier.bytes = (fits (λ plain. plain)).1.sent in
@@ -81,15 +81,15 @@ module _ (plan : Plan) (moves : List Move) (nobody : IsPlainAlone plan) (schedul
   answers_at n one channel number request there at =
       let a : ChannelAccepted = at.item in
       let clash : clashes (Some a.channel) (unit_in a.source) p.book.sent ≡ false =
-      got_all (λ (x : ChannelAccepted). clashes (Some x.channel) (unit_in x.source) p.book.sent ≡ false) p.book.accepted at.place a ((replies_answer_openings plan moves nobody).unclashed calm) at.there in
+      got_all (λ (x : ChannelAccepted). clashes (Some x.channel) (unit_in x.source) p.book.sent ≡ false) p.book.accepted at.place a ((replies_answer_openings plan moves nobody.plain).unclashed calm) at.there in
       let made : IsMadeFor a.channel request p.book.sent =
       made_unless a.channel request p.book.sent (ap (λ (u : Option ℕ). clashes (Some a.channel) u p.book.sent) (sym (ap unit_in at.is.came)) ∙ clash) in
-      let carried : IsCarriedOpening p.world.state.bag a.number request =
+      let carried : IsCarriedOpening p.world.state.bag a.number a.kind request =
       got_all (IsOpenedWell p.world.state.bag) p.book.accepted at.place a (openings_carried plan moves nobody schedule) at.there request at.is.came in
       let had : IsOfUnit OfMark tt p.world.state.bag request made.sent.mark = marks_fit plan moves nobody schedule request made.sent made.noted in
       let unit : had.unit ≡ carried.carrier = some_is had.unit carried.carrier (sym had.there ∙ carried.there) in
       let marked : IsOpeningMark made.sent.mark made.named a.number =
-      marked_opening p.world.state.bag a.number request carried (bytes_in p.world.state.bag (has_bytes plan moves nobody schedule).bytes request carried.carrier carried.there) made.named made.sent.mark made.made
+      marked_opening p.world.state.bag a.number a.kind request carried (bytes_in p.world.state.bag (has_bytes plan moves nobody schedule).bytes request carried.carrier carried.there) made.named made.sent.mark made.made
       (subst (λ (u : BagUnit). FitsMark u made.sent.mark) unit had.holds) (marks_have_their_way plan moves nobody.plain request carried.carrier made.sent carried.there made.noted) in
       let answer : IsMarkedAsOpened p a request =
       got_all (λ (x : ChannelAccepted). (k : ℕ) → x.source ≡ InUnit k → IsMarkedAsOpened p x k) p.book.accepted at.place a (openings_marked plan moves nobody schedule) at.there request at.is.came in
@@ -108,5 +108,5 @@ module _ (plan : Plan) (moves : List Move) (nobody : IsPlainAlone plan) (schedul
   pub replies_to_openings : RepliesAreToOpenings p
   replies_to_openings n one channel number request there mark =
       let has : OneOf (IsThat channel number request n) p.book.accepted =
-      subst (λ (m : Mark). IsReplyOfOpening p.book.accepted n m) mark ((replies_answer_openings plan moves nobody).replies n one there) in
+      subst (λ (m : Mark). IsReplyOfOpening p.book.accepted n m) mark ((replies_answer_openings plan moves nobody.plain).replies n one there) in
       answers_at n one channel number request there (placed (IsThat channel number request n) p.book.accepted has)

@@ -296,9 +296,9 @@ trust_none (Some judged.Barred) j = refl
 trust_none (Some judged.NoChannel) j = refl
 
 module _ (accepted : List ChannelAccepted) (w : Where) (d : Desk) where
-  pub opening_goes : (found : Option ChannelIdentity) (number : ℕ) (computer : List ℕ) (reply : Option ℕ) (left : List (List ℕ)) (after : Computers) → IsKeptBy w.controller computer found d.work.computers after →
+  pub opening_goes : (found : Option ChannelIdentity) (number kind : ℕ) (computer : List ℕ) (reply : Option ℕ) (left : List (List ℕ)) (after : Computers) → IsKeptBy w.controller computer found d.work.computers after →
       IsMap same_name after.pending → AreOrdered accepted left → AreOpened accepted left w.controller d.work.computers →
-      Goes accepted (with_accepted (opening found w number).accepted reply accepted) left left w.controller (λ name. waits_in d.work.computers name) after
-  opening_goes None number computer reply left after is map order kept = no_more_goes accepted left w.controller d.work.computers after is.0 map order kept
-  opening_goes (Some channel) number computer reply left after is map order kept =
-      accepts_goes accepted left w.controller computer (record (accepting w number channel) { reply = reply }) d.work.computers after is map order kept
+      Goes accepted (with_accepted (opening found w number kind).accepted reply accepted) left left w.controller (λ name. waits_in d.work.computers name) after
+  opening_goes None number kind computer reply left after is map order kept = no_more_goes accepted left w.controller d.work.computers after is.0 map order kept
+  opening_goes (Some channel) number kind computer reply left after is map order kept =
+      accepts_goes accepted left w.controller computer (record (accepting w number kind channel) { reply = reply }) d.work.computers after is map order kept

@@ -32,9 +32,9 @@ IfAccepted moves source sends mark (Some one) = (sends ≡ true) × (one.source 
 abbrev pub AcceptsSo : ℕ → Source → Answered → Type 0
 AcceptsSo moves source one = IfAccepted moves source one.sends one.mark one.accepted
 
-opening_so : (channel : Option ChannelIdentity) (w : Where) (number : ℕ) → AcceptsSo w.at w.source (opening channel w number)
-opening_so None w number = tt
-opening_so (Some channel) w number = (refl, refl, refl, λ n came. ap (λ (source : Source). opened_mark (unit_in source) channel number) came)
+opening_so : (channel : Option ChannelIdentity) (w : Where) (number kind : ℕ) → AcceptsSo w.at w.source (opening channel w number kind)
+opening_so None w number kind = tt
+opening_so (Some channel) w number kind = (refl, refl, refl, λ n came. ap (λ (source : Source). opened_mark (unit_in source) channel number) came)
 
 passing_so : (moves : ℕ) (source : Source) (channel : Option ChannelIdentity) (j : Judging) → AcceptsSo moves source (passing channel j)
 passing_so moves source None j = tt
@@ -49,7 +49,7 @@ heard_so (heard.Close cause) w d after = tt
 heard_so (heard.Answer bytes talk) w d after = tt
 heard_so (heard.Waits talk) w d after = tt
 heard_so (heard.Asked line (call.Challenge c) talk) w d after = tt
-heard_so (heard.Asked line (call.Authenticate c) talk) w d after = opening_so (opened_by w.controller c d) w line.call
+heard_so (heard.Asked line (call.Authenticate c) talk) w d after = opening_so (opened_by w.controller c d) w line.call c.channel
 heard_so (heard.Asked line (call.Judged c) talk) w d after =
     judging_so w.at w.source (has_passed (judging_of w line c d after).how) (judging_of w line c d after)
 

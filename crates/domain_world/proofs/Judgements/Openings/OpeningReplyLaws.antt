@@ -1,5 +1,5 @@
--- In every run each unit that is marked as the reply to an opening is that of one that was accepted.
--- It serves `Proved.opened`.
+-- In every run of a plan that hands nothing on each unit that is marked as the reply to an opening is that of one that
+-- was accepted. It serves `Proved.opened` and `Proved.never_apart`.
 use Rattle.std.proofs.Common.{◌≡◌, ℕ, zero, suc, ◌+◌, Bool, true, false, List, [], ◌∷◌, ◌++◌, length, map, Option, Some, None, inl, refl, sym, subst, slice_get}
 use Rattle.std.specs.List.{AllByRecursion}
 use Rattle.authenticators.specs.Channels.{ChannelIdentity}
@@ -22,25 +22,21 @@ use Rattle.step_notes.specs.Served.{work_after}
 use Rattle.world_moves.specs.declared.bag.BagUnit.{BagUnit}
 use Rattle.world_moves.specs.declared.links.EndId.{EndId}
 use Rattle.world_moves.specs.declared.links.EndId.TheVariants.{Member}
-use Rattle.world_moves.specs.declared.moves.Move.{Move}
-use Rattle.world_moves.specs.declared.plan.Plan.{Plan}
 use Rattle.world_moves.specs.declared.state.State.{State}
 use Rattle.world_moves.specs.Acting.{done, heard_by}
-use Rattle.world_moves.specs.Alone.{IsPlainAlone}
 use Rattle.world_moves.specs.Plain.{plain_member_step as member_step}
-use Rattle.domain_world.specs.Claims.OpeningReplies.{IsAcceptedIn, IsReplyOfOpening, RepliesAnswerOpenings}
-use Rattle.domain_world.specs.Past.{Delivery, accepted_of, at_controller, first_of, is_sent_on, later_of, marks_by, marks_of, note_member, numbers_on, onto, past, replied_with}
+use Rattle.domain_world.specs.Claims.OpeningReplies.{IsAcceptedIn, IsReplyOfOpening}
+use Rattle.domain_world.specs.Past.{Delivery, accepted_of, at_controller, first_of, is_sent_on, later_of, marks_by, marks_of, note_member, numbers_on, onto, replied_with}
 use Rattle.wire_base.proofs.ListLaws.{got_nothing, one_behind, some_is}
 use Rattle.domain_world.proofs.Frames.AloneNoteLaws.{alone_answers as answers_of, note_alone as note_at}
-use Rattle.domain_world.proofs.Frames.BagFrameLaws.{IsOfUnit, MarksStay, UnitFact, member_marks, run_stays_marked}
+use Rattle.domain_world.proofs.Frames.BagFrameLaws.{MarksStay, UnitFact, member_marks}
 use Rattle.domain_world.proofs.Frames.EndNoteLaws.{accepted_so, acceptings_of, book_by}
 use Rattle.domain_world.proofs.Frames.FrameLaws.{Fact, StaysWritten}
-use Rattle.domain_world.proofs.Judgements.Openings.OpeningUnclashedLaws.{openings_unclashed}
 use Rattle.domain_world.proofs.Judgements.ReplyLaws.{one_newer, one_older}
 use Rattle.domain_world.proofs.Calls.MarkWayLaws.{IsRequest, turns_way}
 
 -- a reply to one of these is a reply to one of those
-of_others : (mark : Mark) (accepted others : List ChannelAccepted) (number : ℕ) → ((P : ChannelAccepted → Type 0) → OneOf P accepted → OneOf P others) →
+pub of_others : (mark : Mark) (accepted others : List ChannelAccepted) (number : ℕ) → ((P : ChannelAccepted → Type 0) → OneOf P accepted → OneOf P others) →
     IsReplyOfOpening accepted number mark → IsReplyOfOpening others number mark
 of_others Plain accepted others number so is = tt
 of_others (Opening channel call) accepted others number so is = tt
@@ -51,7 +47,7 @@ of_others (ReplyTo channel call request) accepted others number so is = tt
 -- ---- the mark of an answer
 
 -- the reply to an opening is that of the channel that was accepted
-abbrev IfOpened : Mark → Option ChannelAccepted → Type 0
+abbrev pub IfOpened : Mark → Option ChannelAccepted → Type 0
 IfOpened Plain accepted = Unit {0}
 IfOpened (Opening channel number) accepted = Unit {0}
 IfOpened (Opened channel number request) None = ⊥
@@ -63,11 +59,11 @@ opened_so : (source : Source) (one : ChannelAccepted) → one.source ≡ source 
 opened_so (InUnit unit) one is = (refl, refl, is)
 opened_so Outside one is = tt
 
-opening_so : (channel : Option ChannelIdentity) (w : Where) (number : ℕ) → IfOpened (opening channel w number).mark (opening channel w number).accepted
-opening_so None w number = tt
-opening_so (Some channel) w number = opened_so w.source (accepting w number channel) refl
+pub opening_so : (channel : Option ChannelIdentity) (w : Where) (number kind : ℕ) → IfOpened (opening channel w number kind).mark (opening channel w number kind).accepted
+opening_so None w number kind = tt
+opening_so (Some channel) w number kind = opened_so w.source (accepting w number kind channel) refl
 
-reply_so : (unit : Option ℕ) (channel : ChannelIdentity) (number : ℕ) → IfOpened (reply_mark unit channel number) None
+pub reply_so : (unit : Option ℕ) (channel : ChannelIdentity) (number : ℕ) → IfOpened (reply_mark unit channel number) None
 reply_so None channel number = tt
 reply_so (Some unit) channel number = tt
 
@@ -75,7 +71,7 @@ passing_so : (channel : Option ChannelIdentity) (j : Judging) → IfOpened (pass
 passing_so None j = tt
 passing_so (Some channel) j = reply_so (unit_in j.source) channel j.number
 
-judging_so : (passed : Bool) (j : Judging) → IfOpened (judging_by passed j).mark (judging_by passed j).accepted
+pub judging_so : (passed : Bool) (j : Judging) → IfOpened (judging_by passed j).mark (judging_by passed j).accepted
 judging_so false j = tt
 judging_so true j = passing_so (channel_in j.controller (computer_named j.asked) j.checks) j
 
@@ -84,7 +80,7 @@ heard_so (heard.Close cause) w d after = tt
 heard_so (heard.Answer bytes talk) w d after = tt
 heard_so (heard.Waits talk) w d after = tt
 heard_so (heard.Asked line (call.Challenge c) talk) w d after = tt
-heard_so (heard.Asked line (call.Authenticate c) talk) w d after = opening_so (opened_by w.controller c d) w line.call
+heard_so (heard.Asked line (call.Authenticate c) talk) w d after = opening_so (opened_by w.controller c d) w line.call c.channel
 heard_so (heard.Asked line (call.Judged c) talk) w d after =
     judging_so (has_passed (judging_of w line c d after).how) (judging_of w line c d after)
 
@@ -105,7 +101,7 @@ of_first (ReplyTo channel call request) accepted number more is = tt
 
 module _ (number : ℕ) (mark : Mark) where
   -- at one place stand the mark and the number of its unit
-  abbrev IsPlaced : List Answered → Type 0
+  abbrev pub IsPlaced : List Answered → Type 0
   IsPlaced answers =
       (numbers : List ℕ) (place : ℕ) → slice_get (answered_marks answers) place ≡ Some mark → slice_get numbers place ≡ Some number →
       IsReplyOfOpening (accepted_of answers numbers) number mark
@@ -127,7 +123,7 @@ module _ (number : ℕ) (mark : Mark) where
       (λ P it. one_behind P (replied_with one.accepted (Some n)) (accepted_of answers numbers) it)
       (later numbers place marked numbered)
 
-  all_placed : (answers : List Answered) → AllByRecursion (λ (one : Answered). IfOpened one.mark one.accepted) answers → IsPlaced answers
+  pub all_placed : (answers : List Answered) → AllByRecursion (λ (one : Answered). IfOpened one.mark one.accepted) answers → IsPlaced answers
   all_placed [] so numbers place marked numbered = absurd (got_nothing place mark marked)
   all_placed (one ∷ answers) so numbers place marked numbered =
       first_placed one.sends one answers so.0 (all_placed answers so.1) numbers place marked numbered
@@ -141,12 +137,12 @@ module _ (P : Mark → Type 0) (plain : P Plain) where
   by_all true [] later go each = (plain, go [] tt)
   by_all true (mark ∷ marks) later go each = (each.0, go marks each.1)
 
-  marks_all : (link : ℕ) (back : Bool) (units : List BagUnit) (marks : List Mark) → AllByRecursion P marks → AllByRecursion P (marks_of link back units marks)
+  pub marks_all : (link : ℕ) (back : Bool) (units : List BagUnit) (marks : List Mark) → AllByRecursion P marks → AllByRecursion P (marks_of link back units marks)
   marks_all link back [] marks each = tt
   marks_all link back (unit ∷ units) marks each =
       by_all (is_sent_on link back unit) marks (λ (rest : List Mark). marks_of link back units rest) (λ rest all. marks_all link back units rest all) each
 
-requests_free : (mark : Mark) (accepted : List ChannelAccepted) (number : ℕ) → IsRequest mark → IsReplyOfOpening accepted number mark
+pub requests_free : (mark : Mark) (accepted : List ChannelAccepted) (number : ℕ) → IsRequest mark → IsReplyOfOpening accepted number mark
 requests_free Plain accepted number way = tt
 requests_free (Opening channel call) accepted number way = tt
 requests_free (Opened channel call request) accepted number way = absurd (let never : false ≡ true = way in cc)
@@ -200,15 +196,4 @@ opened_stay = record {
       requests_free mark (note_member (Some m) at w piece s after b).accepted (length s.bag + place)
       (got_all IsRequest (marks_of w.link false units (member_marks at m w piece s)) place mark
       (marks_all IsRequest tt w.link false units (member_marks at m w piece s) (turns_way (OfMember at) s (turn_units m w.link piece s.moment s.chances.left))) marked);
-}
-
--- ---- a run
-
-pub replies_answer_openings : (plan : Plan) (moves : List Move) → IsPlainAlone plan → RepliesAnswerOpenings (past plan moves)
-replies_answer_openings plan moves nobody = record {
-  replies = λ number sent marked.
-      let of : IsOfUnit OfUnit (past plan moves).book.accepted (past plan moves).world.state.bag number sent.mark =
-      run_stays_marked acceptings_of NothingElse OfUnit nothing_else opened_stay plan moves nobody tt number sent marked in
-      of.holds;
-  unclashed = openings_unclashed plan moves;
 }

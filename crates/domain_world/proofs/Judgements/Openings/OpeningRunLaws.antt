@@ -77,7 +77,7 @@ onto_one : (one : Option ChannelAccepted) (number : Option ℕ) (later accepted 
 onto_one None number later accepted = refl
 onto_one (Some one) number later accepted = refl
 
-accepted_more : (answers : List Answered) (one : Answered) (numbers : List ℕ) (accepted : List ChannelAccepted) →
+pub accepted_more : (answers : List Answered) (one : Answered) (numbers : List ℕ) (accepted : List ChannelAccepted) →
     onto (accepted_of (answers ++ one ∷ []) numbers) accepted
     ≡ with_accepted one.accepted (first_of (numbers_left answers numbers)) (onto (accepted_of answers numbers) accepted)
 accepted_more [] one numbers accepted = onto_one one.accepted (first_of numbers) [] accepted
@@ -117,8 +117,8 @@ module _ (w : Where) (accepted : List ChannelAccepted) (left : List (List ℕ)) 
     authenticate = λ answers d some line c on goes.
         let later : Computers = (answer_authenticate d.table line c d.work).computers in
         let opened : Option ChannelIdentity = opened_by w.controller c d in
-        further answers (opening opened w line.call) d later some some goes
-        (opening_goes (written answers) w d opened line.call c.computer (first_of (numbers_left answers numbers)) some later
+        further answers (opening opened w line.call c.channel) d later some some goes
+        (opening_goes (written answers) w d opened line.call c.channel c.computer (first_of (numbers_left answers numbers)) some later
         (calls_are_kept.authenticate w.controller d.table line c d.work goes.kept.map) (authenticate_map d.table line c d.work goes.kept.map) goes.order goes.kept);
     judged = λ answers d some line c on goes.
         let after : Desk = answer_judged c w.name w.moment line d in

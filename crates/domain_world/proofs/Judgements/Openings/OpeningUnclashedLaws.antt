@@ -75,16 +75,16 @@ by_noted source (Some (judged.Answered status)) j = tt
 by_noted source (Some judged.Barred) j = tt
 by_noted source (Some judged.NoChannel) j = tt
 
-opening_noted : (channel : Option ChannelIdentity) (w : Where) (number : ℕ) → IsNoted w.source (opening channel w number)
-opening_noted None w number = tt
-opening_noted (Some channel) w number = (refl, refl)
+opening_noted : (channel : Option ChannelIdentity) (w : Where) (number kind : ℕ) → IsNoted w.source (opening channel w number kind)
+opening_noted None w number kind = tt
+opening_noted (Some channel) w number kind = (refl, refl)
 
 heard_noted : (what : Heard) (w : Where) (d : Desk) (after : Option Desk) → IsNoted w.source (trust_heard_answer what w d after)
 heard_noted (heard.Close cause) w d after = tt
 heard_noted (heard.Answer bytes talk) w d after = tt
 heard_noted (heard.Waits talk) w d after = tt
 heard_noted (heard.Asked line (call.Challenge c) talk) w d after = tt
-heard_noted (heard.Asked line (call.Authenticate c) talk) w d after = opening_noted (opened_by w.controller c d) w line.call
+heard_noted (heard.Asked line (call.Authenticate c) talk) w d after = opening_noted (opened_by w.controller c d) w line.call c.channel
 heard_noted (heard.Asked line (call.Judged c) talk) w d after =
     by_noted w.source (judging_of w line c d after).how (judging_of w line c d after)
 

@@ -40,7 +40,7 @@ use Rattle.domain_world.proofs.Sequences.Own.OwnKeepLaws.{OwnHolds}
 use Rattle.domain_world.proofs.Sequences.Own.OwnStayLaws.{one_stays, HearsIf, NoNewCalls, OwnFacts, all_stay, on_any, OwnBy, OwnOf, own_put}
 use Rattle.domain_world.proofs.Sequences.Own.OwnTurnLaws.{AreDrawn, mine}
 use Rattle.domain_world.proofs.Sequences.SeedTurnLaws.{turned_blank}
-use Rattle.domain_world.proofs.Moves.RequesterLaws.{not_client, asker_in, asker_first}
+use Rattle.domain_world.proofs.Moves.RequesterLaws.{asking_end, not_client, asker_in, asker_first}
 use Rattle.world_moves.proofs.ChangeLaws.{by_change, member_begun, text_begun}
 use Rattle.world_moves.specs.Plain.{plain_world, renew_plain_member as renew_member}
 
@@ -90,7 +90,7 @@ module _ (plan : Plan) where
         ends = record { controllers = refl; members = refl; clients = sym (length-set s.ends.clients client _) };
       } in
       all_stay plan s t b b refl grows given (given ++ given_by (Client client) actions) (λ challenge was. was) refl refl
-      (λ who. omega (arith, given_append who given (given_by (Client client) actions), given_other who (Client client) actions (not_client who client))) (λ n number timestamp e there. there)
+      (λ who. omega (arith, given_append (asking_end who) given (given_by (Client client) actions), given_other (asking_end who) (Client client) actions (not_client who client))) (λ n number timestamp e there. there)
       (known (omega (arith, few)) unclashed apart (marks_before s t b b grows marks) differ)
 
   -- ---- an end is made anew
@@ -160,8 +160,8 @@ module _ (plan : Plan) where
         let more : Given = given ++ given_by (Member at) (text_begun secret running) in
         let grows : GrowsTo s t b b = record { bag = kept_same s.bag; sent = λ k one there. there; ends = same } in
         let still : StillDrawn s.chances.drawn t.chances.drawn = λ challenge was. was in
-        let count : (who : RequesterId) → given_dials who more ≡ given_dials who given =
-        λ who. omega (arith, given_append who given (given_by (Member at) (text_begun secret running)), text_dials who at secret running) in
+        let count : (who : RequesterId) → given_dials (asking_end who) more ≡ given_dials (asking_end who) given =
+        λ who. omega (arith, given_append (asking_end who) given (given_by (Member at) (text_begun secret running)), text_dials who at secret running) in
         let was : OwnOf plan s given b (OfMember at) (Some running) =
         subst (λ (found : Option MemberState). OwnOf plan s given b (OfMember at) (running_in found)) is (old.asks (OfMember at)) in
         let own : OwnOf plan t more b (OfMember at) (Some running) =

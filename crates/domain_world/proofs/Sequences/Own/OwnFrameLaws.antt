@@ -3,11 +3,10 @@
 use Rattle.std.proofs.Common.{◌≡◌, ℕ, ◌≤◌, Bool, true, false, List, [], ◌∷◌, ◌++◌, inl, inr, Option, Some, None, slice_get, slice_set, refl, sym, ap, subst, arith, if◌then◌else◌}
 use Rattle.std.proofs.lemmas.List.{length-set}
 use Rattle.outside.specs.Drawing.{Drawing}
+use Rattle.outside.specs.Machine.{Stepped}
 use Rattle.outside.specs.declared.action.Action.{Action}
 use Rattle.outside.specs.declared.event.Event.{Event}
 use Rattle.domain_controller.specs.State.{State as ControllerState}
-use Rattle.domain_controller.specs.Step.{step_of as controller_step_of}
-use Rattle.logon_client.specs.Machine.{step_of as client_step_of}
 use Rattle.logon_client.specs.State.{State as ClientState}
 use Rattle.channel_client.specs.Effects.{view_of}
 use Rattle.channel_events.specs.Requests.{IsDrawn}
@@ -22,23 +21,22 @@ use Rattle.world_moves.specs.declared.links.EndId.{EndId}
 use Rattle.world_moves.specs.declared.links.EndId.TheVariants.{Controller, Member, Client}
 use Rattle.world_moves.specs.declared.state.State.{State}
 use Rattle.world_moves.specs.declared.state.WaitingDial.{WaitingDial}
-use Rattle.world_moves.specs.Acting.{Given, given_by}
-use Rattle.world_moves.specs.Ends.{EndStates, EndStep, actions_by, client_step, with_client}
+use Rattle.world_moves.specs.Acting.{AfterHearing, Given, given_by}
+use Rattle.world_moves.specs.Ends.{EndStates, EndStep, actions_by, client_done, controller_done, member_done, with_client}
 use Rattle.domain_world.specs.Accepting.SeenSteps.{Differ}
-use Rattle.domain_world.proofs.Frames.AloneStepLaws.{alone_by as step_by}
+use Rattle.domain_world.proofs.Frames.ByKindLaws.{StepsByKind}
+use Rattle.domain_world.proofs.Frames.MoveKeepLaws.{How}
 use Rattle.domain_world.proofs.Calls.CallHoldsLaws.{SameNumbers, differ_front}
 use Rattle.domain_world.proofs.Sequences.DialCountLaws.{answered_dials, dials_out, given_append, given_dials, given_other, none_counted}
 use Rattle.domain_world.proofs.Sequences.DialWalkLaws.{DialFact}
 use Rattle.domain_world.proofs.Sequences.Own.OwnTurnLaws.{Answers, AreDrawn, TurnsIf, member_step as own_step, mine, times}
 use Rattle.domain_world.proofs.Sequences.SeedTurnLaws.{Turned, drawn_still, turned_later}
-use Rattle.domain_world.proofs.Moves.RequesterLaws.{asked_in, not_controller, not_client, not_that, asker_in, asker_same, asked_put, asks_at}
+use Rattle.domain_world.proofs.Moves.RequesterLaws.{asking_end, asked_in, not_controller, not_client, not_that, asker_in, asker_same, asked_put, asks_at}
 use Rattle.domain_world.specs.Past.{running_in}
 use Rattle.secret_change.specs.Secrets.{written_secrets}
 use Rattle.outside.specs.declared.action.Action.TheVariants.{Keep}
 use Rattle.world_moves.proofs.ChangeLaws.{by_change, member_begun, text_begun, with_next}
 use Rattle.world_moves.specs.Moving.{changed}
-use Rattle.world_moves.specs.Alone.{alone_controller_step as controller_step, alone_end_step as end_step, hear_alone as hear}
-use Rattle.world_moves.specs.Plain.{plain_member_step as member_step}
 
 -- ---- what is known
 
@@ -70,7 +68,7 @@ still_drawn drawn later turns still all =
 -- ---- of a member that takes no step
 
 pub same_turns : (who : RequesterId) (controller : ℕ) (d e : Option EndId) (rest more : Given) (dials waiting : List WaitingDial) (drawn later : List (List ℕ)) (given after : Given) (turns : List ChannelTurn) (r : Option Running) →
-    dials_out who e more waiting ≤ dials_out who d rest dials → answered_dials who e ≤ answered_dials who d → given_dials who after ≡ given_dials who given → StillDrawn drawn later →
+    dials_out (asking_end who) e more waiting ≤ dials_out (asking_end who) d rest dials → answered_dials (asking_end who) e ≤ answered_dials (asking_end who) d → given_dials (asking_end who) after ≡ given_dials (asking_end who) given → StillDrawn drawn later →
     TurnsIf who controller d rest dials drawn given turns r → TurnsIf who controller e more waiting later after turns r
 same_turns who controller d e rest more dials waiting drawn later given after turns None out answered same still old = tt
 same_turns who controller d e rest more dials waiting drawn later given after turns (Some running) out answered same still old = record {
@@ -80,31 +78,31 @@ same_turns who controller d e rest more dials waiting drawn later given after tu
   given_once = omega (arith, same, old.given_once);
   given_waits = λ some. let was = old.given_waits (omega (arith, same, some)) in (was.0, omega (arith, answered, was.1));
   turned = subst (λ (n : ℕ). Turned (view_of controller running.logons.channel) (mine who turns ++ times n (turn_of controller who running.logons.channel)) later) (sym same)
-      (turned_later (view_of controller running.logons.channel) (mine who turns ++ times (given_dials who given) (turn_of controller who running.logons.channel)) drawn later still old.turned);
+      (turned_later (view_of controller running.logons.channel) (mine who turns ++ times (given_dials (asking_end who) given) (turn_of controller who running.logons.channel)) drawn later still old.turned);
 }
 
-answers_less : (who : RequesterId) (end : EndId) (what : Event) (d later : Option EndId) (rest : Given) → Answers end what d later rest → answered_dials who later ≤ answered_dials who d
-answers_less who end what d later rest answers = elim answers [
-  | inl quiet ↦ omega (arith, ap (λ (e : Option EndId). answered_dials who e) quiet.1)
-  | inr answered ↦ omega (arith, ap (λ (e : Option EndId). answered_dials who e) answered.1)
+pub answers_less : (its : EndId) (end : EndId) (what : Event) (d later : Option EndId) (rest : Given) → Answers end what d later rest → answered_dials its later ≤ answered_dials its d
+answers_less its end what d later rest answers = elim answers [
+  | inl quiet ↦ omega (arith, ap (λ (e : Option EndId). answered_dials its e) quiet.1)
+  | inr answered ↦ omega (arith, ap (λ (e : Option EndId). answered_dials its e) answered.1)
 ]
 
 -- ---- an event
 
 module _ (plans : List MemberPlan) (ends : EndStates) (dials : List WaitingDial) (d later : Option EndId) (rest given : Given) (turns : List ChannelTurn)
-    (less : (who : RequesterId) → answered_dials who later ≤ answered_dials who d) where
+    (less : (who : RequesterId) → answered_dials (asking_end who) later ≤ answered_dials (asking_end who) d) where
   abbrev Before : List (List ℕ) → Type 0
   Before drawn = TurnsHold d rest plans ends dials drawn given turns
 
   -- of a member that takes no step, by what the end that takes one gives
-  one_other : (who : RequesterId) (controller : ℕ) (end : EndId) (actions : List Action) (drawn after : List (List ℕ)) (r : Option Running) → given_dials who (given_by end actions) ≡ 0 → StillDrawn drawn after →
+  one_other : (who : RequesterId) (controller : ℕ) (end : EndId) (actions : List Action) (drawn after : List (List ℕ)) (r : Option Running) → given_dials (asking_end who) (given_by end actions) ≡ 0 → StillDrawn drawn after →
       TurnsIf who controller d rest dials drawn given turns r → TurnsIf who controller later (given_by end actions ++ rest) dials after (given ++ given_by end actions) turns r
   one_other who controller end actions drawn after r none still old =
       same_turns who controller d later rest (given_by end actions ++ rest) dials dials drawn after given (given ++ given_by end actions) turns r
-      (omega (arith, given_append who (given_by end actions) rest, none, less who)) (less who) (omega (arith, given_append who given (given_by end actions), none)) still old
+      (omega (arith, given_append (asking_end who) (given_by end actions) rest, none, less who)) (less who) (omega (arith, given_append (asking_end who) given (given_by end actions), none)) still old
 
   others_hold : (now : EndStates) (end : EndId) (actions : List Action) (drawn after : List (List ℕ)) → now.members ≡ ends.members → SameNumbers ends now →
-      ((who : RequesterId) → given_dials who (given_by end actions) ≡ 0) → StillDrawn drawn after → Before drawn →
+      ((who : RequesterId) → given_dials (asking_end who) (given_by end actions) ≡ 0) → StillDrawn drawn after → Before drawn →
       TurnsHold later (given_by end actions ++ rest) plans now dials after (given ++ given_by end actions) turns
   others_hold now end actions drawn after same numbers none still holds = record {
     before = still_drawn drawn after turns still holds.before;
@@ -121,24 +119,23 @@ module _ (plans : List MemberPlan) (ends : EndStates) (dials : List WaitingDial)
   abbrev Heard : EndId → EndStep → Type 0
   Heard end step = TurnsKnown later (given_by end step.actions ++ rest) plans step.ends dials step.chances (given ++ given_by end step.actions) turns
 
-  controller_hears : (c : ControllerState) (at : ℕ) (what : Event) (now : ℕ) (chances : Drawing) → (Differ chances.drawn → Before chances.drawn) →
-      Heard (Controller at) (controller_step (Some c) at what now ends chances)
-  controller_hears c at what now chances known differ =
-      let step = controller_step_of c what now chances.left in
+  -- whatever a controller does, or a client
+  controller_hears : (step : Stepped ControllerState) (at : ℕ) (chances : Drawing) → (Differ chances.drawn → Before chances.drawn) → Heard (Controller at) (controller_done step at ends chances)
+  controller_hears step at chances known differ =
       others_hold (record ends { controllers = slice_set ends.controllers at step.state }) (Controller at) (actions_by step.answer) chances.drawn (chances.drawn ++ step.drawn) refl
-      (record { controllers = length-set ends.controllers at step.state; members = refl; clients = refl }) (λ who. given_other who (Controller at) (actions_by step.answer) (not_controller who at))
-      (λ challenge is. drawn_still challenge chances.drawn step.drawn is) (known (differ_front chances.drawn step.drawn differ))
+      (record { controllers = length-set ends.controllers at step.state; members = refl; clients = refl })
+      (λ who. given_other (asking_end who) (Controller at) (actions_by step.answer) (not_controller who at)) (λ challenge is. drawn_still challenge chances.drawn step.drawn is)
+      (known (differ_front chances.drawn step.drawn differ))
 
-  client_hears : (c : ClientState) (at : ℕ) (what : Event) (now : ℕ) (chances : Drawing) → (Differ chances.drawn → Before chances.drawn) →
-      Heard (Client at) (client_step (Some c) at what now ends chances)
-  client_hears c at what now chances known differ =
-      let step = client_step_of c what now chances.left in
+  client_hears : (step : Stepped ClientState) (at : ℕ) (chances : Drawing) → (Differ chances.drawn → Before chances.drawn) → Heard (Client at) (client_done step at ends chances)
+  client_hears step at chances known differ =
       others_hold (record ends { clients = slice_set ends.clients at step.state }) (Client at) (actions_by step.answer) chances.drawn (chances.drawn ++ step.drawn) refl
-      (record { controllers = refl; members = refl; clients = length-set ends.clients at step.state }) (λ who. given_other who (Client at) (actions_by step.answer) (not_client who at))
-      (λ challenge is. drawn_still challenge chances.drawn step.drawn is) (known (differ_front chances.drawn step.drawn differ))
+      (record { controllers = refl; members = refl; clients = length-set ends.clients at step.state })
+      (λ who. given_other (asking_end who) (Client at) (actions_by step.answer) (not_client who at)) (λ challenge is. drawn_still challenge chances.drawn step.drawn is)
+      (known (differ_front chances.drawn step.drawn differ))
 
   member_hears : (m : MemberState) (at : ℕ) (what : Event) (now : ℕ) (chances : Drawing) → slice_get ends.members at ≡ Some m →
-      Answers (Member at) what d later rest → (Differ chances.drawn → Before chances.drawn) → Heard (Member at) (member_step (Some m) at what now ends chances)
+      Answers (Member at) what d later rest → (Differ chances.drawn → Before chances.drawn) → Heard (Member at) (member_done (step_of m what now chances.left) at ends chances)
   member_hears m at what now chances is answers known differ =
       let step = step_of m what now chances.left in
       let after : List (List ℕ) = chances.drawn ++ step.drawn in
@@ -154,23 +151,25 @@ module _ (plans : List MemberPlan) (ends : EndStates) (dials : List WaitingDial)
             (subst (λ (found : Option MemberState). TurnsIf (OfMember at) (asked_in (OfMember at) plans ends) d rest dials chances.drawn given turns (running_in found)) is (holds.asks (OfMember at)))
             (mine_drawn (OfMember at) chances.drawn turns holds.before) differ)
             (λ who differs.
-            one_other who (asked_in who plans ends) (Member at) actions chances.drawn after (asker_in who ends) (given_other who (Member at) actions (not_that who at differs)) still
+            one_other who (asked_in who plans ends) (Member at) actions chances.drawn after (asker_in who ends) (given_other (asking_end who) (Member at) actions (not_that who at differs)) still
             (holds.asks who));
       }
 
-  end_hears : (end : EndId) (what : Event) (now : ℕ) (chances : Drawing) → Answers end what d later rest → (Differ chances.drawn → Before chances.drawn) → Heard end (end_step end what now ends chances)
-  end_hears end what now chances answers known =
-      step_by (λ (one : EndId) (step : EndStep). Answers one what d later rest → Heard one step) what now ends chances (λ one its differ. nothing_heard one chances.drawn (known differ))
-      (λ at c is its. controller_hears c at what now chances known) (λ at m is its. member_hears m at what now chances is its known)
-      (λ at c is its. client_hears c at what now chances known) end answers
-
 -- an end hears something
-pub hear_holds : (d later : Option EndId) (rest : Given) (end : EndId) (what : Event) (s : State) (given : Given) (turns : List ChannelTurn) →
+pub hear_holds : (how : How) → StepsByKind how → (d later : Option EndId) (rest : Given) (end : EndId) (what : Event) (s : State) (given : Given) (turns : List ChannelTurn) →
     Answers end what d later rest → TurnsKnown d rest s.member_plans s.ends s.dials s.chances given turns →
-    let heard = hear end what s in
+    let heard = how.hears end what s in
     TurnsKnown later (given_by end heard.actions ++ rest) heard.state.member_plans heard.state.ends heard.state.dials heard.state.chances (given ++ given_by end heard.actions) turns
-hear_holds d later rest end what s given turns answers known =
-    end_hears s.member_plans s.ends s.dials d later rest given turns (λ who. answers_less who end what d later rest answers) end what s.moment s.chances answers known
+hear_holds how kinds d later rest end what s given turns answers known =
+    let less : (who : RequesterId) → answered_dials (asking_end who) later ≤ answered_dials (asking_end who) d = λ who. answers_less (asking_end who) end what d later rest answers in
+    kinds.hears
+    (λ (one : EndId) (heard : AfterHearing).
+    Answers one what d later rest →
+    TurnsKnown later (given_by one heard.actions ++ rest) heard.state.member_plans heard.state.ends heard.state.dials heard.state.chances (given ++ given_by one heard.actions) turns) what s
+    (λ one its differ. nothing_heard s.member_plans s.ends s.dials d later rest given turns less one s.chances.drawn (known differ))
+    (λ at c step is its. controller_hears s.member_plans s.ends s.dials d later rest given turns less step at s.chances known)
+    (λ at m is its. member_hears s.member_plans s.ends s.dials d later rest given turns less m at what s.moment s.chances is its known)
+    (λ at c step is its. client_hears s.member_plans s.ends s.dials d later rest given turns less step at s.chances known) end answers
 
 -- a client begins
 pub begin_holds : (client : ℕ) (state : ClientState) (actions : List Action) (plans : List MemberPlan) (ends : EndStates) (dials : List WaitingDial) (chances : Drawing) (turns : List ChannelTurn) →
@@ -178,7 +177,7 @@ pub begin_holds : (client : ℕ) (state : ClientState) (actions : List Action) (
     TurnsKnown None (given_by (Client client) actions ++ []) plans (with_client client state ends) dials chances (given_by (Client client) actions) turns
 begin_holds client state actions plans ends dials chances turns known differ =
     others_hold plans ends dials None None [] [] turns (λ who. omega arith) (with_client client state ends) (Client client) actions chances.drawn chances.drawn refl
-    (record { controllers = refl; members = refl; clients = length-set ends.clients client state }) (λ who. given_other who (Client client) actions (not_client who client)) (λ challenge is. is) (known differ)
+    (record { controllers = refl; members = refl; clients = length-set ends.clients client state }) (λ who. given_other (asking_end who) (Client client) actions (not_client who client)) (λ challenge is. is) (known differ)
 
 -- ---- a member begins to change its secret
 
@@ -195,7 +194,7 @@ changed_turns who controller d rest dials drawn given turns secret running old =
 }
 
 -- the text that it keeps dials nothing
-pub text_dials : (who : RequesterId) (at : ℕ) (secret : List ℕ) (running : Running) → given_dials who (given_by (Member at) (text_begun secret running)) ≡ 0
+pub text_dials : (who : RequesterId) (at : ℕ) (secret : List ℕ) (running : Running) → given_dials (asking_end who) (given_by (Member at) (text_begun secret running)) ≡ 0
 text_dials who at secret running = omega (arith, none_counted (asks_at who (Member at)) (Keep (written_secrets (with_next secret running.logons.plan.secrets))) refl)
 
 pub change_holds : (at : ℕ) (secret : List ℕ) (s : State) (turns : List ChannelTurn) → TurnsKnown None [] s.member_plans s.ends s.dials s.chances [] turns →

@@ -37,7 +37,7 @@ use Rattle.domain_world.proofs.Sequences.Own.OwnRunLaws.{hold_over, turns_at}
 use Rattle.domain_world.proofs.Sequences.Own.OwnStayLaws.{HearsIf, OwnFacts, all_stay, member_hears, OwnOf, own_on, on_any, NoNewCalls}
 use Rattle.domain_world.proofs.Sequences.Own.OwnTurnLaws.{TurnsIf}
 use Rattle.domain_world.proofs.Sequences.SeedTurnLaws.{drawn_still}
-use Rattle.domain_world.proofs.Moves.RequesterLaws.{not_controller, not_client, asker_in}
+use Rattle.domain_world.proofs.Moves.RequesterLaws.{asking_end, not_controller, not_client, asker_in}
 
 -- ---- the fact
 
@@ -63,12 +63,12 @@ HearsNoUnit end what s = IfMember (λ (at : ℕ). HearsIf (slice_get s.ends.memb
 
 module _ (plan : Plan) where
   -- an end that is no member
-  others_hear : (end : EndId) (step : EndStep) (s : State) (given : Given) (b : Book) → step.ends.members ≡ s.ends.members → ((who : RequesterId) → given_dials who (given_by end step.actions) ≡ 0) →
+  others_hear : (end : EndId) (step : EndStep) (s : State) (given : Given) (b : Book) → step.ends.members ≡ s.ends.members → ((who : RequesterId) → given_dials (asking_end who) (given_by end step.actions) ≡ 0) →
       SameEnds s.ends step.ends → DrawsOn s.chances step.chances → (Differ s.chances.drawn → OwnFacts plan s given b) → Differ step.chances.drawn →
       OwnFacts plan (heard_by step s).state (given ++ given_by end step.actions) b
   others_hear end step s given b members none same draws known differ =
       all_stay plan s (heard_by step s).state b b refl (record { bag = kept_same s.bag; sent = λ k one there. there; ends = same }) given (given ++ given_by end step.actions)
-      (draws_still s.chances step.chances draws) refl members (λ who. omega (arith, given_append who given (given_by end step.actions), none who)) (λ n number timestamp e there. there)
+      (draws_still s.chances step.chances draws) refl members (λ who. omega (arith, given_append (asking_end who) given (given_by end step.actions), none who)) (λ n number timestamp e there. there)
       (known (draws_before s.chances step.chances draws differ))
 
   end_hears : (end : EndId) (what : Event) (s : State) (given : Given) (b : Book) → HearsNoUnit end what s → (Differ s.chances.drawn → OwnFacts plan s given b) →
@@ -78,11 +78,11 @@ module _ (plan : Plan) where
       HearsNoUnit one what s → SameEnds s.ends step.ends → DrawsOn s.chances step.chances → Differ step.chances.drawn → OwnFacts plan (heard_by step s).state (given ++ given_by one step.actions) b)
       what s.moment s.ends s.chances (λ one its same draws. others_hear one (no_step s.ends s.chances) s given b refl (λ who. refl) same draws known)
       (λ at c is its same draws.
-      others_hear (Controller at) (controller_step (Some c) at what s.moment s.ends s.chances) s given b refl (λ who. given_other who (Controller at) _ (not_controller who at)) same draws known)
+      others_hear (Controller at) (controller_step (Some c) at what s.moment s.ends s.chances) s given b refl (λ who. given_other (asking_end who) (Controller at) _ (not_controller who at)) same draws known)
       (λ at m is its same draws.
       member_hears plan s given b m at what is (subst (λ (found : Option MemberState). HearsIf found what) is (its at refl))
       (record { bag = kept_same s.bag; sent = λ k one there. there; ends = same }) known)
-      (λ at c is its same draws. others_hear (Client at) (client_step (Some c) at what s.moment s.ends s.chances) s given b refl (λ who. given_other who (Client at) _ (not_client who at)) same draws known) end
+      (λ at c is its same draws. others_hear (Client at) (client_step (Some c) at what s.moment s.ends s.chances) s given b refl (λ who. given_other (asking_end who) (Client at) _ (not_client who at)) same draws known) end
       none (step_same end what s.moment s.ends s.chances) (end_draws end what s.moment s.ends s.chances)
 
   -- an end takes a step in which no whole unit comes on the link of a turn

@@ -13,6 +13,8 @@ use Rattle.world_moves.specs.Acting.{Given}
 use Rattle.world_moves.specs.Alone.{IsPlainAlone}
 use Rattle.world_moves.specs.Plain.{plain_world}
 use Rattle.domain_world.specs.Past.{note_given, turns_in, controller_asked}
+use Rattle.domain_world.proofs.Frames.ByKindLaws.{alone_kinds}
+use Rattle.domain_world.proofs.Frames.MoveKeepLaws.{alone}
 use Rattle.domain_world.proofs.Frames.StepFrameLaws.{ActionFact, HoldsAfterRun, KeepsWith, NoFact, RunFact, run_beside}
 use Rattle.domain_world.proofs.Sequences.CalledStepLaws.{OwnCalls}
 use Rattle.domain_world.proofs.Sequences.DialCountLaws.{given_dials}
@@ -21,7 +23,7 @@ use Rattle.domain_world.proofs.Sequences.Own.OwnFrameLaws.{TurnsKnown}
 use Rattle.domain_world.proofs.Sequences.Own.OwnRunLaws.{first_known, turns_keep, all_turns}
 use Rattle.domain_world.proofs.Sequences.Own.OwnTurnLaws.{TurnsOf, mine, no_times, none_or_one, one_time, times}
 use Rattle.domain_world.proofs.Moves.PlacedLaws.{HasBytes}
-use Rattle.domain_world.proofs.Moves.RequesterLaws.{asked_now, asker_in}
+use Rattle.domain_world.proofs.Moves.RequesterLaws.{asking_end, asked_now, asker_in}
 
 -- ---- of one requester
 
@@ -30,14 +32,14 @@ pub own_over : (Done : ℕ → Type 0) (marks : List Mark) (s : State) (given : 
     OwnCalls Done marks s.chances.drawn (turns ++ turns_in given s) [] (controller_asked who s) who running
 own_over Done marks s given turns who running runs dials old =
     let turn : List ChannelTurn = turn_of (controller_asked who s) who running.logons.channel in
-    let all : mine who (turns ++ turns_in given s) ≡ mine who turns ++ times (given_dials who given) turn =
-    all_turns s who running turns given runs ∙ ap (λ (c : ℕ). mine who turns ++ times (given_dials who given) (turn_of c who running.logons.channel)) (asked_now who s) in
-    let own : old.own ≡ mine who turns ++ times (given_dials who given) turn =
-    elim (none_or_one (given_dials who given) dials.given_once) [
-      | inl none ↦ old.none none ∙ sym (no_times (given_dials who given) turn (mine who turns) none)
+    let all : mine who (turns ++ turns_in given s) ≡ mine who turns ++ times (given_dials (asking_end who) given) turn =
+    all_turns s who running turns given runs ∙ ap (λ (c : ℕ). mine who turns ++ times (given_dials (asking_end who) given) (turn_of c who running.logons.channel)) (asked_now who s) in
+    let own : old.own ≡ mine who turns ++ times (given_dials (asking_end who) given) turn =
+    elim (none_or_one (given_dials (asking_end who) given) dials.given_once) [
+      | inl none ↦ old.none none ∙ sym (no_times (given_dials (asking_end who) given) turn (mine who turns) none)
       | inr one ↦
-          (let some : 1 ≤ given_dials who given = omega (arith, one) in
-          old.one one (dials.given_waits some).0 ∙ sym (one_time (given_dials who given) turn (mine who turns) one))
+          (let some : 1 ≤ given_dials (asking_end who) given = omega (arith, one) in
+          old.one one (dials.given_waits some).0 ∙ sym (one_time (given_dials (asking_end who) given) turn (mine who turns) one))
     ] in
     record {
       own = old.own;
@@ -55,5 +57,5 @@ pub own_run : {Over : Type 0} → (Holds : RunFact) (Fine : ActionFact) → Keep
     ((n at : ℕ) (s : State) (given : Given) (b : Book) → AtState TurnsKnown None [] s given b.turns → Holds n s given b → Holds n s [] (note_given at given s b)) →
     (plan : Plan) (moves : List Move) → IsPlainAlone plan → HasBytes plan moves → Holds 0 (plain_world plan).state [] blank → HoldsAfterRun Holds plan moves
 own_run Holds Fine keeps over plan moves nobody has first =
-    run_beside Holds Fine keeps (OfDials TurnsKnown turns_keep) (dials_keep TurnsKnown turns_keep (Unit {0}))
+    run_beside Holds Fine keeps (OfDials TurnsKnown) (dials_keep alone alone_kinds TurnsKnown (turns_keep alone alone_kinds) (Unit {0}))
     (λ n at on s given b known holds. over n at s given b known holds) plan moves nobody has (λ on. first_known plan) first

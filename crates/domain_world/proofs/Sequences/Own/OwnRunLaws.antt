@@ -1,6 +1,6 @@
 -- After every run the seed of a requester's open channel is that of its turns on it.
 -- It serves `Proved.own`.
-use Rattle.std.proofs.Common.{◌≡◌, ℕ, zero, suc, ◌+◌, ◌≤◌, ◌&&◌, Bool, true, false, List, [], ◌∷◌, ◌++◌, drop, map, inl, inr, Option, Some, None, slice_get, refl, sym, ap, subst, ◌∙◌, arith, if◌then◌else◌}
+use Rattle.std.proofs.Common.{◌≡◌, ℕ, zero, suc, ◌+◌, ◌≤◌, ◌&&◌, Bool, true, false, List, [], ◌∷◌, ◌++◌, drop, map, inl, inr, Option, Some, None, slice_get, slice_set, refl, sym, ap, subst, ◌∙◌, arith, if◌then◌else◌}
 use Rattle.std.specs.List.{filter}
 use Rattle.std.proofs.lemmas.List.{append-nil, append_assoc, length-set}
 use Rattle.std.proofs.lemmas.List.Elements.{filter-append}
@@ -10,7 +10,6 @@ use Rattle.outside.specs.declared.event.Event.TheVariants as event
 use Rattle.authenticators.specs.Channels.{ChannelIdentity}
 use Rattle.wire_base.specs.declared.authenticator.Authenticator.{Authenticator}
 use Rattle.authenticators.specs.SecureChannels.{SecureChannelState}
-use Rattle.domain_controller.specs.Step.{first_state}
 use Rattle.logon_client.specs.Machine.{begin_of, fresh_client}
 use Rattle.channel_client.specs.declared.state.SetStep.TheVariants as set_step
 use Rattle.channel_client.specs.Effects.{seed_in, stands_in, step_in, view_of}
@@ -33,12 +32,12 @@ use Rattle.world_moves.specs.declared.plan.Plan.{Plan}
 use Rattle.world_moves.specs.declared.state.State.{State}
 use Rattle.world_moves.specs.declared.state.WaitingDial.{WaitingDial}
 use Rattle.world_moves.specs.Acting.{Given, forget, is_of_other, perform_quietly, plans_after}
-use Rattle.world_moves.specs.Ends.{EndStates, renew_client}
-use Rattle.world_moves.specs.Alone.{IsPlainAlone}
+use Rattle.world_moves.specs.Ends.{EndStates, with_client}
 use Rattle.world_moves.proofs.EndKindLaws.{IfMember}
 use Rattle.domain_world.specs.Claims.SharedSequences.{SequencesAreOwn, ChannelStands, timestamps_on}
 use Rattle.domain_world.specs.Past.{past, running_in, turns_by, turns_in, controller_asked}
-use Rattle.domain_world.proofs.Frames.AloneStepLaws.{renew_alone as renew, renew_alone_by as renew_by, renew_controller_alone as renew_controller}
+use Rattle.domain_world.proofs.Frames.ByKindLaws.{StepsByKind, every_kinds}
+use Rattle.domain_world.proofs.Frames.MoveKeepLaws.{How, every}
 use Rattle.domain_world.proofs.Moves.DrawnRunLaws.{draws_differ}
 use Rattle.domain_world.proofs.Sequences.DialCountLaws.{counted, dials_out, done_same, forgotten_few, given_dials, gone_all, none_counted, one_if, waiting_dials}
 use Rattle.domain_world.proofs.Sequences.DialWalkLaws.{AtState, KeepsDials, dials_after}
@@ -48,17 +47,17 @@ use Rattle.domain_world.proofs.Sequences.SeedTurnLaws.{Turned, on_channel, stamp
 use Rattle.domain_world.proofs.Moves.RequesterLaws.{asked_alike, asked_in, asked_now, asking_end, asks_at, not_controller, not_client, asker_in, RunsWith, asker_runs, stands_open, asker_first, asker_same, asked_put, same_is, same_asks}
 use Rattle.domain_world.proofs.Calls.CallHoldsLaws.{SameNumbers}
 use Rattle.world_moves.proofs.KeptLaws.{plans_alike}
-use Rattle.world_moves.specs.Plain.{plain_world, renew_plain_member as renew_member}
+use Rattle.world_moves.specs.Plain.{NothingSeals, plain_world, renew_plain_member as renew_member}
 
 -- ---- dials
 
-first_of_dials : (dials : List WaitingDial) (dial : WaitingDial) → slice_get dials 0 ≡ Some dial → dials ≡ dial ∷ drop 1 dials
+pub first_of_dials : (dials : List WaitingDial) (dial : WaitingDial) → slice_get dials 0 ≡ Some dial → dials ≡ dial ∷ drop 1 dials
 first_of_dials [] dial is = absurd (let x = is in cc)
 first_of_dials (first ∷ dials) dial is = let same : first ≡ dial = some_is first dial is in ap (λ (one : WaitingDial). one ∷ dials) same
 
 -- of one that takes no step, where nothing was given: as many dials are out, or fewer
 fewer_out : (who : RequesterId) (controller : ℕ) (d later : Option EndId) (dials waiting : List WaitingDial) (drawn : List (List ℕ)) (turns : List ChannelTurn) (r : Option Running) →
-    dials_out who later [] waiting ≤ dials_out who d [] dials → TurnsIf who controller d [] dials drawn [] turns r → TurnsIf who controller later [] waiting drawn [] turns r
+    dials_out (asking_end who) later [] waiting ≤ dials_out (asking_end who) d [] dials → TurnsIf who controller d [] dials drawn [] turns r → TurnsIf who controller later [] waiting drawn [] turns r
 fewer_out who controller d later dials waiting drawn turns None few old = tt
 fewer_out who controller d later dials waiting drawn turns (Some running) few old = record {
   order = old.order;
@@ -76,8 +75,8 @@ first_holds dial s turns is known differ =
     record {
       before = holds.before;
       asks = λ who.
-          let count : waiting_dials who s.dials ≡ one_if (asks_at who dial.end) + waiting_dials who (drop 1 s.dials) =
-          ap (λ (l : List WaitingDial). waiting_dials who l) (first_of_dials s.dials dial is) in
+          let count : waiting_dials (asking_end who) s.dials ≡ one_if (asks_at who dial.end) + waiting_dials (asking_end who) (drop 1 s.dials) =
+          ap (λ (l : List WaitingDial). waiting_dials (asking_end who) l) (first_of_dials s.dials dial is) in
           fewer_out who (asked_in who s.member_plans s.ends) None (Some dial.end) s.dials (drop 1 s.dials) s.chances.drawn turns (asker_in who s.ends) (omega (arith, count)) (holds.asks who);
     }
 
@@ -89,7 +88,7 @@ forgets_hold end s turns known differ =
       before = holds.before;
       asks = λ who.
           fewer_out who (asked_in who s.member_plans s.ends) None None s.dials (filter (is_of_other end) s.dials) s.chances.drawn turns (asker_in who s.ends)
-          (omega (arith, forgotten_few who end s.dials)) (holds.asks who);
+          (omega (arith, forgotten_few (asking_end who) end s.dials)) (holds.asks who);
     }
 
 -- ---- an end is made anew
@@ -98,7 +97,7 @@ module _ (plans : List MemberPlan) (ends : EndStates) (dials : List WaitingDial)
   abbrev Now : EndStates → List WaitingDial → Type 0
   Now now waiting = TurnsHold None [] plans now waiting drawn [] turns
 
-  anew : (who : RequesterId) (controller : ℕ) (plan : MemberPlan) (waiting : List WaitingDial) → waiting_dials who waiting ≡ 0 →
+  anew : (who : RequesterId) (controller : ℕ) (plan : MemberPlan) (waiting : List WaitingDial) → waiting_dials (asking_end who) waiting ≡ 0 →
       TurnsIf who controller None [] waiting drawn [] turns (fresh_member plan).running
   anew who controller plan waiting none = record {
     order = asks_what_waits.fresh plan;
@@ -116,28 +115,27 @@ module _ (plans : List MemberPlan) (ends : EndStates) (dials : List WaitingDial)
   }
 
   -- none of its dials waits
-  member_renewed : (plan : MemberPlan) (at : ℕ) → waiting_dials (OfMember at) dials ≡ 0 → Now ends dials → Now (renew_member (Some plan) at ends) dials
+  member_renewed : (plan : MemberPlan) (at : ℕ) → waiting_dials (Member at) dials ≡ 0 → Now ends dials → Now (renew_member (Some plan) at ends) dials
   member_renewed plan at none holds = record {
     before = holds.before;
     asks = asked_put (λ (who : RequesterId) (c : ℕ) (r : Option Running). TurnsIf who c None [] dials drawn [] turns r) plans at (fresh_member plan) ends (λ who c. tt)
         (anew (OfMember at) (asked_in (OfMember at) plans ends) plan dials none) (λ who differs. holds.asks who);
   }
 
-renews_hold : (end : EndId) (s : State) (turns : List ChannelTurn) → TurnsKnown None [] s.member_plans s.ends s.dials s.chances [] turns →
-    TurnsKnown None [] s.member_plans (renew end (forget end s)) (filter (is_of_other end) s.dials) s.chances [] turns
-renews_hold end s turns known differ =
+renews_hold : (how : How) → StepsByKind how → (end : EndId) (s : State) (turns : List ChannelTurn) → AtState TurnsKnown None [] s [] turns →
+    AtState TurnsKnown None [] (how.renews end (forget end s)) [] turns
+renews_hold how kinds end s turns known =
     let dials : List WaitingDial = filter (is_of_other end) s.dials in
-    let holds : TurnsHold None [] s.member_plans s.ends dials s.chances.drawn [] turns = forgets_hold end s turns known differ in
-    renew_by (λ (one : EndId) (ends : EndStates). IfMember (λ (at : ℕ). waiting_dials (OfMember at) dials ≡ 0) one → TurnsHold None [] s.member_plans ends dials s.chances.drawn [] turns) (forget end s)
-    (λ one none. holds)
-    (λ at c is none.
-    other_renewed s.member_plans s.ends dials s.chances.drawn turns (renew_controller (Some c) at s.ends) refl
-    (record { controllers = length-set s.ends.controllers at (first_state c.table c.name); members = refl; clients = refl }) holds)
-    (λ at plan is none. member_renewed s.member_plans s.ends dials s.chances.drawn turns plan at (none at refl) holds)
-    (λ at plan is none.
-    other_renewed s.member_plans s.ends dials s.chances.drawn turns (renew_client (Some plan) at s.ends) refl
-    (record { controllers = refl; members = refl; clients = length-set s.ends.clients at (fresh_client plan) }) holds) end
-    (λ at is. subst (λ (one : EndId). waiting_dials (OfMember at) (filter (is_of_other one) s.dials) ≡ 0) (sym is) (gone_all (OfMember at) s.dials))
+    let forgotten : AtState TurnsKnown None [] (forget end s) [] turns = forgets_hold end s turns known in
+    kinds.renews (λ (one : EndId) (t : State). IfMember (λ (at : ℕ). waiting_dials (Member at) dials ≡ 0) one → AtState TurnsKnown None [] t [] turns) (forget end s) (λ one none. forgotten)
+    (λ at c new is none differ.
+    other_renewed s.member_plans s.ends dials s.chances.drawn turns (record s.ends { controllers = slice_set s.ends.controllers at new }) refl
+    (record { controllers = length-set s.ends.controllers at new; members = refl; clients = refl }) (forgotten differ))
+    (λ at plan is none differ. member_renewed s.member_plans s.ends dials s.chances.drawn turns plan at (none at refl) (forgotten differ))
+    (λ at new none differ.
+    other_renewed s.member_plans s.ends dials s.chances.drawn turns (with_client at new s.ends) refl
+    (record { controllers = refl; members = refl; clients = length-set s.ends.clients at new }) (forgotten differ)) end
+    (λ at is. subst (λ (one : EndId). waiting_dials (Member at) (filter (is_of_other one) s.dials) ≡ 0) (sym is) (gone_all (Member at) s.dials))
 
 -- ---- the turns of a move are written down
 
@@ -218,21 +216,21 @@ module _ (s : State) where
       (λ end what none. ap (λ (n : ℕ). times n (turn_now who)) (sym (none who))) (λ other peer. dial_mine (asks_at who (asking_end other)) who other peer (same_asks other who))
 
   -- those of a requester are its turn, as often as it dialled
-  pub all_mine : (who : RequesterId) (given : Given) → mine who (turns_in given s) ≡ times (given_dials who given) (turn_now who)
+  pub all_mine : (who : RequesterId) (given : Given) → mine who (turns_in given s) ≡ times (given_dials (asking_end who) given) (turn_now who)
   all_mine who [] = refl
   all_mine who (one ∷ given) =
       filter-append (λ (turn : ChannelTurn). same_requester turn.requester who) (turns_by one.0 one.1 s) (turns_in given s)
       ∙ ap (λ (l : List ChannelTurn). l ++ mine who (turns_in given s)) (one_mine who one.0 one.1)
       ∙ ap (λ (l : List ChannelTurn). times (counted (asks_at who one.0) one.1) (turn_now who) ++ l) (all_mine who given)
-      ∙ sym (times_more (counted (asks_at who one.0) one.1) (given_dials who given) (turn_now who))
+      ∙ sym (times_more (counted (asks_at who one.0) one.1) (given_dials (asking_end who) given) (turn_now who))
 
   -- where its end runs, with those before
   pub all_turns : (who : RequesterId) (running : Running) (turns : List ChannelTurn) (given : Given) → asker_in who s.ends ≡ Some running →
-      mine who (turns ++ turns_in given s) ≡ mine who turns ++ times (given_dials who given) (turn_of (asked_in who s.member_plans s.ends) who running.logons.channel)
+      mine who (turns ++ turns_in given s) ≡ mine who turns ++ times (given_dials (asking_end who) given) (turn_of (asked_in who s.member_plans s.ends) who running.logons.channel)
   all_turns who running turns given runs =
       filter-append (λ (one : ChannelTurn). same_requester one.requester who) turns (turns_in given s)
       ∙ ap (λ (l : List ChannelTurn). mine who turns ++ l) (all_mine who given)
-      ∙ ap (λ (r : Option Running). mine who turns ++ times (given_dials who given) (turn_if (asked_in who s.member_plans s.ends) who r)) runs
+      ∙ ap (λ (r : Option Running). mine who turns ++ times (given_dials (asking_end who) given) (turn_if (asked_in who s.member_plans s.ends) who r)) runs
 
   -- ---- they were on channels whose client's challenge was drawn
 
@@ -283,24 +281,24 @@ acts_hold d rest end what s given turns known differ =
           subst (λ (c : ℕ). TurnsIf who c d rest (perform_quietly end what s).dials s.chances.drawn given turns (asker_in who s.ends))
           (sym (asked_alike who s.member_plans (plans_after end what s.member_plans) s.ends (plans_alike end what s.member_plans)))
           (same_turns who (asked_in who s.member_plans s.ends) d d ((end, what) ∷ rest) rest s.dials (perform_quietly end what s).dials s.chances.drawn s.chances.drawn given given
-          turns (asker_in who s.ends) (omega (arith, done_same who d rest end what s)) (omega arith) refl (λ challenge is. is) (holds.asks who));
+          turns (asker_in who s.ends) (omega (arith, done_same (asking_end who) d rest end what s)) (omega arith) refl (λ challenge is. is) (holds.asks who));
     }
 
 -- ---- through a run
 
-pub turns_keep : KeepsDials TurnsKnown
-turns_keep = record {
-  closes = λ d rest end link s given turns known. hear_holds d d rest end (event.Closed link) s given turns (inl (tt, refl)) known;
-  opens = λ d end link s given turns known. hear_holds d d [] end (event.Opened link) s given turns (inl (tt, refl)) known;
-  comes = λ end link piece s given turns known. hear_holds None None [] end (event.Bytes link piece) s given turns (inl (tt, refl)) known;
-  dialled = λ end link s given turns known. hear_holds (Some end) None [] end (event.Dialled link) s given turns (inr (refl, refl, refl)) known;
-  fails = λ end s given turns known. hear_holds (Some end) None [] end event.DialFailed s given turns (inr (refl, refl, refl)) known;
+pub turns_keep : (how : How) → StepsByKind how → KeepsDials how TurnsKnown
+turns_keep how kinds = record {
+  closes = λ d rest end link s given turns known. hear_holds how kinds d d rest end (event.Closed link) s given turns (inl (tt, refl)) known;
+  opens = λ d end link s given turns known. hear_holds how kinds d d [] end (event.Opened link) s given turns (inl (tt, refl)) known;
+  comes = λ end link piece s given turns known. hear_holds how kinds None None [] end (event.Bytes link piece) s given turns (inl (tt, refl)) known;
+  dialled = λ end link s given turns known. hear_holds how kinds (Some end) None [] end (event.Dialled link) s given turns (inr (refl, refl, refl)) known;
+  fails = λ end s given turns known. hear_holds how kinds (Some end) None [] end event.DialFailed s given turns (inr (refl, refl, refl)) known;
   begins = λ client plan s turns known.
       begin_holds client (begin_of (fresh_client plan)).state (begin_of (fresh_client plan)).actions s.member_plans s.ends s.dials s.chances turns known;
   acts = λ d rest end what s given turns known. acts_hold d rest end what s given turns known;
   first = λ dial s turns is known. first_holds dial s turns is known;
   forgets = λ end s turns known. forgets_hold end s turns known;
-  renews = λ end s turns known. renews_hold end s turns known;
+  renews = λ end s turns known. renews_hold how kinds end s turns known;
   changes = λ at secret s turns known. change_holds at secret s turns known;
   over = λ s given turns known differ. hold_over s given turns (known differ);
 }
@@ -349,8 +347,10 @@ own_seed s who channel o turns holds stands =
     ∙ ap (λ (l : List ChannelTurn). channel_seed channel (stamps_on channel l)) (append-nil (mine who turns))
     ∙ ap (channel_seed channel) (own_stamps who channel turns)
 
-pub sequences_own : (plan : Plan) (moves : List Move) → IsPlainAlone plan → SequencesAreOwn (past plan moves)
-sequences_own plan moves nobody who channel o stands =
-    let known : AtState TurnsKnown None [] (past plan moves).world.state [] (past plan moves).book.turns =
-    dials_after TurnsKnown turns_keep plan moves nobody (first_known plan) in
-    own_seed (past plan moves).world.state who channel o (past plan moves).book.turns (known (draws_differ plan moves)) stands
+-- after a run in which nothing seals
+pub turns_after : (plan : Plan) (moves : List Move) → NothingSeals plan → AtState TurnsKnown None [] (past plan moves).world.state [] (past plan moves).book.turns
+turns_after plan moves nothing = dials_after TurnsKnown (turns_keep every every_kinds) plan moves nothing (first_known plan)
+
+pub sequences_own : (plan : Plan) (moves : List Move) → NothingSeals plan → SequencesAreOwn (past plan moves)
+sequences_own plan moves nothing who channel o stands =
+    own_seed (past plan moves).world.state who channel o (past plan moves).book.turns (turns_after plan moves nothing (draws_differ plan moves)) stands

@@ -76,7 +76,7 @@ OnStanding P controller (Some running) = (c : ChannelIdentity) → stands_in con
 
 module _ (plan : Plan) (s t : State) (b d : Book) (plans : AreAlikeButSecrets s.member_plans t.member_plans) (grows : GrowsTo s t b d) where
   -- of one that takes no step, by what is drawn, written down and given
-  pub own_on : (who : RequesterId) (drawn later : List (List ℕ)) (turns : List ChannelTurn) (given more : Given) (r : Option Running) → given_dials who more ≡ given_dials who given →
+  pub own_on : (who : RequesterId) (drawn later : List (List ℕ)) (turns : List ChannelTurn) (given more : Given) (r : Option Running) → given_dials (asking_end who) more ≡ given_dials (asking_end who) given →
       StillDrawn drawn later → OnStanding (NoNewOn (marks_in b.sent) (marks_in d.sent)) (controller_asked who s) r →
       OwnBy (IsTakenFor (past_at plan s b)) (marks_in b.sent) drawn turns given (controller_asked who s) who r →
       OwnBy (IsTakenFor (past_at plan t d)) (marks_in d.sent) later turns more (controller_asked who t) who r
@@ -93,7 +93,7 @@ module _ (plan : Plan) (s t : State) (b d : Book) (plans : AreAlikeButSecrets s.
   on_any controller (Some running) none = λ c stands n number timestamp e there client. none n number timestamp e there
 
   module _ (given more : Given) (drawn : StillDrawn s.chances.drawn t.chances.drawn) (turns : d.turns ≡ b.turns) where
-    pub one_stays : (who : RequesterId) (r : Option Running) → given_dials who more ≡ given_dials who given → OnStanding (NoNewOn (marks_in b.sent) (marks_in d.sent)) (controller_asked who s) r →
+    pub one_stays : (who : RequesterId) (r : Option Running) → given_dials (asking_end who) more ≡ given_dials (asking_end who) given → OnStanding (NoNewOn (marks_in b.sent) (marks_in d.sent)) (controller_asked who s) r →
         OwnOf plan s given b who r → OwnOf plan t more d who r
     one_stays who r count new old =
         subst (λ (all : List ChannelTurn). OwnBy (IsTakenFor (past_at plan t d)) (marks_in d.sent) t.chances.drawn all more (controller_asked who t) who r) (sym turns)
@@ -103,7 +103,7 @@ module _ (plan : Plan) (s t : State) (b d : Book) (plans : AreAlikeButSecrets s.
     before_stays all = subst (λ (ts : List ChannelTurn). AreDrawn t.chances.drawn ts) (sym turns) (still_drawn s.chances.drawn t.chances.drawn b.turns drawn all)
 
     -- no member takes a step, and no call goes out
-    pub all_stay : t.ends.members ≡ s.ends.members → ((who : RequesterId) → given_dials who more ≡ given_dials who given) → NoNewCalls (marks_in b.sent) (marks_in d.sent) → OwnFacts plan s given b →
+    pub all_stay : t.ends.members ≡ s.ends.members → ((who : RequesterId) → given_dials (asking_end who) more ≡ given_dials (asking_end who) given) → NoNewCalls (marks_in b.sent) (marks_in d.sent) → OwnFacts plan s given b →
         OwnFacts plan t more d
     all_stay members count none old = record {
       before = before_stays old.before;
@@ -113,7 +113,7 @@ module _ (plan : Plan) (s t : State) (b d : Book) (plans : AreAlikeButSecrets s.
     }
 
     -- a member takes a step, and the others stay
-    pub own_put : (at : ℕ) (new : MemberState) → OwnOf plan t more d (OfMember at) new.running → ((who : RequesterId) → who ≢ OfMember at → given_dials who more ≡ given_dials who given) →
+    pub own_put : (at : ℕ) (new : MemberState) → OwnOf plan t more d (OfMember at) new.running → ((who : RequesterId) → who ≢ OfMember at → given_dials (asking_end who) more ≡ given_dials (asking_end who) given) →
         ((who : RequesterId) → who ≢ OfMember at → OnStanding (NoNewOn (marks_in b.sent) (marks_in d.sent)) (controller_asked who s) (asker_in who s.ends)) → OwnFacts plan s given b →
         (who : RequesterId) → OwnOf plan t more d who (asker_in who (with_member at new s.ends))
     own_put at new own count none old =
@@ -163,6 +163,6 @@ module _ (plan : Plan) (s : State) (given : Given) (b : Book) where
       record {
         before = before_stays plan s t b b refl grows given more still refl old.before;
         asks = own_put plan s t b b refl grows given more still refl at step.state own
-            (λ who differs. omega (arith, given_append who given (given_by (Member at) actions), given_other who (Member at) actions (not_that who at differs)))
+            (λ who differs. omega (arith, given_append (asking_end who) given (given_by (Member at) actions), given_other (asking_end who) (Member at) actions (not_that who at differs)))
             (λ who differs. on_any plan s t b b refl grows (controller_asked who s) (asker_in who s.ends) (λ n number timestamp e there. there)) old;
       }

@@ -64,12 +64,12 @@ times (suc n) turns = turns ++ times n turns
 pub record TurnsOf (who : RequesterId) (controller : ℕ) (d : Option EndId) (rest : Given) (dials : List WaitingDial) (drawn : List (List ℕ)) (given : Given) (turns : List ChannelTurn) (running : Running) : Type 0 where
   pub order : IsInOrder (is_dialled running.dialling) running.logons
   -- one dial is out at most, and the turn waits for it then
-  pub out_once : dials_out who d rest dials ≤ 1
-  pub out_waits : 1 ≤ dials_out who d rest dials → IsWaiting running.dialling
+  pub out_once : dials_out (asking_end who) d rest dials ≤ 1
+  pub out_waits : 1 ≤ dials_out (asking_end who) d rest dials → IsWaiting running.dialling
   -- one was given at most, which wasn't answered then
-  pub given_once : given_dials who given ≤ 1
-  pub given_waits : 1 ≤ given_dials who given → IsWaiting running.dialling × (answered_dials who d ≡ 0)
-  pub turned : Turned (view_of controller running.logons.channel) (mine who turns ++ times (given_dials who given) (turn_of controller who running.logons.channel)) drawn
+  pub given_once : given_dials (asking_end who) given ≤ 1
+  pub given_waits : 1 ≤ given_dials (asking_end who) given → IsWaiting running.dialling × (answered_dials (asking_end who) d ≡ 0)
+  pub turned : Turned (view_of controller running.logons.channel) (mine who turns ++ times (given_dials (asking_end who) given) (turn_of controller who running.logons.channel)) drawn
 
 abbrev pub TurnsIf : RequesterId → ℕ → Option EndId → Given → List WaitingDial → List (List ℕ) → Given → List ChannelTurn → Option Running → Type 0
 TurnsIf who controller d rest dials drawn given turns None = Unit {0}
@@ -180,7 +180,7 @@ module _ (who : RequesterId) (controller : ℕ) (drawn : List (List ℕ)) (turns
 
   free_by : (part : Result (Part DialWork) StepRefused) (running : Running) (what : Event) (now : ℕ) (left : List (List ℕ)) (d : Option EndId) (rest : Given) (dials : List WaitingDial) (given : Given) →
       TurnStepsIfTaken running.logons.channel (by_event what running.dialling (work_of running) left) now part →
-      InOrderUnlessStopped (step_by actions_in state_in halted_state left part).state.running → dials_out who d rest dials ≡ 0 → given_dials who given ≡ 0 → IsCoherent running.logons.channel →
+      InOrderUnlessStopped (step_by actions_in state_in halted_state left part).state.running → dials_out (asking_end who) d rest dials ≡ 0 → given_dials (asking_end who) given ≡ 0 → IsCoherent running.logons.channel →
       Turned (view_of controller running.logons.channel) (mine who turns) drawn → Differ (drawn ++ (step_by actions_in state_in halted_state left part).drawn) →
       let actions : List Action = actions_by (step_by actions_in state_in halted_state left part).answer in
       TurnsIf who controller d (given_by (asking_end who) actions ++ rest) dials (drawn ++ (step_by actions_in state_in halted_state left part).drawn) (given ++ given_by (asking_end who) actions) turns
@@ -196,10 +196,10 @@ module _ (who : RequesterId) (controller : ℕ) (drawn : List (List ℕ)) (turns
       let has : HasStarted who controller (drawn ++ draws_between left part.left) turns part.value.0.logons.channel part.value.1 (dials_in actions) =
       started (can_start mid.turn mid.waiting) (needs_challenge mid.standing) now mid left steps.part.left part.value.0.logons.channel part.left steps.part.value.1 part.value refl refl steps.next
       rest_left steps.dials (ready_coherent w comes.0) differ comes.1 in
-      let count : given_dials who (given_by (asking_end who) actions) ≡ dials_in actions = given_own who (asking_end who) actions (is_itself who) in
-      let given_after : given_dials who (given ++ given_by (asking_end who) actions) ≡ dials_in actions = omega (arith, given_append who given (given_by (asking_end who) actions), count, none) in
-      let rest_after : given_dials who (given_by (asking_end who) actions ++ rest) ≡ dials_in actions + given_dials who rest = omega (arith, given_append who (given_by (asking_end who) actions) rest, count) in
-      let out_after : dials_out who d (given_by (asking_end who) actions ++ rest) dials ≡ dials_in actions = omega (arith, rest_after, out) in
+      let count : given_dials (asking_end who) (given_by (asking_end who) actions) ≡ dials_in actions = given_own (asking_end who) (asking_end who) actions (is_itself who) in
+      let given_after : given_dials (asking_end who) (given ++ given_by (asking_end who) actions) ≡ dials_in actions = omega (arith, given_append (asking_end who) given (given_by (asking_end who) actions), count, none) in
+      let rest_after : given_dials (asking_end who) (given_by (asking_end who) actions ++ rest) ≡ dials_in actions + given_dials (asking_end who) rest = omega (arith, given_append (asking_end who) (given_by (asking_end who) actions) rest, count) in
+      let out_after : dials_out (asking_end who) d (given_by (asking_end who) actions ++ rest) dials ≡ dials_in actions = omega (arith, rest_after, out) in
       record {
         order = order;
         out_once = omega (arith, out_after, has.few);
@@ -240,13 +240,13 @@ module _ (who : RequesterId) (controller : ℕ) (turns : List ChannelTurn) where
       let before : Requester = running.logons.channel in
       let new : Requester = part.value.0.logons.channel in
       let later : List (List ℕ) = drawn ++ draws_between left part.left in
-      let count : given_dials who (given_by (asking_end who) actions) ≡ 0 = given_own who (asking_end who) actions (is_itself who) ∙ stays.none in
-      let given_after : given_dials who (given ++ given_by (asking_end who) actions) ≡ given_dials who given = omega (arith, given_append who given (given_by (asking_end who) actions), count) in
-      let rest_after : given_dials who (given_by (asking_end who) actions ++ rest) ≡ given_dials who rest = omega (arith, given_append who (given_by (asking_end who) actions) rest, count) in
-      let own : List ChannelTurn = mine who turns ++ times (given_dials who given) (turn_of controller who before) in
-      let same : mine who turns ++ times (given_dials who (given ++ given_by (asking_end who) actions)) (turn_of controller who new) ≡ own =
+      let count : given_dials (asking_end who) (given_by (asking_end who) actions) ≡ 0 = given_own (asking_end who) (asking_end who) actions (is_itself who) ∙ stays.none in
+      let given_after : given_dials (asking_end who) (given ++ given_by (asking_end who) actions) ≡ given_dials (asking_end who) given = omega (arith, given_append (asking_end who) given (given_by (asking_end who) actions), count) in
+      let rest_after : given_dials (asking_end who) (given_by (asking_end who) actions ++ rest) ≡ given_dials (asking_end who) rest = omega (arith, given_append (asking_end who) (given_by (asking_end who) actions) rest, count) in
+      let own : List ChannelTurn = mine who turns ++ times (given_dials (asking_end who) given) (turn_of controller who before) in
+      let same : mine who turns ++ times (given_dials (asking_end who) (given ++ given_by (asking_end who) actions)) (turn_of controller who new) ≡ own =
       ap (λ (n : ℕ). mine who turns ++ times n (turn_of controller who new)) given_after
-      ∙ ap (λ (l : List ChannelTurn). mine who turns ++ times (given_dials who given) l) (turn_same controller who before new stays.caller stays.standing stays.turn) in
+      ∙ ap (λ (l : List ChannelTurn). mine who turns ++ times (given_dials (asking_end who) given) l) (turn_same controller who before new stays.caller stays.standing stays.turn) in
       record {
         order = order;
         out_once = omega (arith, rest_after, old.out_once);
@@ -265,7 +265,7 @@ module _ (who : RequesterId) (controller : ℕ) (turns : List ChannelTurn) where
 abbrev pub Answers : EndId → Event → Option EndId → Option EndId → Given → Type 0
 Answers end what d later rest = (IsNoAnswer what × (later ≡ d)) ⊎ ((d ≡ Some end) × (later ≡ None) × (rest ≡ []))
 
-waits_case : (how : Dialling) → IsWaiting how ⊎ (IsWaiting how → ⊥)
+pub waits_case : (how : Dialling) → IsWaiting how ⊎ (IsWaiting how → ⊥)
 waits_case dialling.Nothing = inr (λ waits. waits)
 waits_case (dialling.Waits turn frames) = inl tt
 waits_case (dialling.On number said) = inr (λ waits. waits)
@@ -275,7 +275,7 @@ waits_dialled dialling.Nothing waits = absurd waits
 waits_dialled (dialling.Waits turn frames) waits = refl
 waits_dialled (dialling.On number said) waits = absurd waits
 
-none_of : (n : ℕ) → n ≤ 1 → (1 ≤ n → ⊥) → n ≡ 0
+pub none_of : (n : ℕ) → n ≤ 1 → (1 ≤ n → ⊥) → n ≡ 0
 none_of n few never = elim (none_or_one n few) [ inl none ↦ none | inr one ↦ absurd (never (omega (arith, one))) ]
 
 module _ (who : RequesterId) (controller : ℕ) (turns : List ChannelTurn) where
@@ -284,7 +284,7 @@ module _ (who : RequesterId) (controller : ℕ) (turns : List ChannelTurn) where
   order_after running what now left order = asks_what_waits.keeps (record { running = Some running }) running what now left refl order
 
   free_step : (running : Running) (what : Event) (now : ℕ) (left : List (List ℕ)) (d later : Option EndId) (rest : Given) (dials : List WaitingDial) (drawn : List (List ℕ)) (given : Given) →
-      dials_out who later rest dials ≡ 0 → given_dials who given ≡ 0 → TurnsOf who controller d rest dials drawn given turns running → AreDrawn drawn (mine who turns) →
+      dials_out (asking_end who) later rest dials ≡ 0 → given_dials (asking_end who) given ≡ 0 → TurnsOf who controller d rest dials drawn given turns running → AreDrawn drawn (mine who turns) →
       Differ (drawn ++ (step_by actions_in state_in halted_state left (event_part running what now left)).drawn) →
       let actions : List Action = actions_by (step_by actions_in state_in halted_state left (event_part running what now left)).answer in
       TurnsIf who controller later (given_by (asking_end who) actions ++ rest) dials (drawn ++ (step_by actions_in state_in halted_state left (event_part running what now left)).drawn)
@@ -293,7 +293,7 @@ module _ (who : RequesterId) (controller : ℕ) (turns : List ChannelTurn) where
       free_by who controller drawn turns before (event_part running what now left) running what now left later rest dials given (turns_dialled.starts running what now left)
       (order_after running what now left old.order) out none old.order.coherent
       (subst (λ (all : List ChannelTurn). Turned (view_of controller running.logons.channel) all drawn)
-      (no_times (given_dials who given) (turn_of controller who running.logons.channel) (mine who turns) none) old.turned) differ
+      (no_times (given_dials (asking_end who) given) (turn_of controller who running.logons.channel) (mine who turns) none) old.turned) differ
 
   pub member_step : (r : Option Running) (what : Event) (now : ℕ) (left : List (List ℕ)) (d later : Option EndId) (rest : Given) (dials : List WaitingDial) (drawn : List (List ℕ)) (given : Given) →
       Answers (asking_end who) what d later rest → TurnsIf who controller d rest dials drawn given turns r → AreDrawn drawn (mine who turns) →
@@ -315,13 +315,13 @@ module _ (who : RequesterId) (controller : ℕ) (turns : List ChannelTurn) where
               (order_after running what now left old.order) old)
           | inr not_so ↦
               free_step running what now left d later rest dials drawn given
-              (subst (λ (e : Option EndId). dials_out who e rest dials ≡ 0) (sym quiet.1) (none_of (dials_out who d rest dials) old.out_once (λ some. not_so (old.out_waits some))))
-              (none_of (given_dials who given) old.given_once (λ some. not_so (old.given_waits some).0)) old before differ
+              (subst (λ (e : Option EndId). dials_out (asking_end who) e rest dials ≡ 0) (sym quiet.1) (none_of (dials_out (asking_end who) d rest dials) old.out_once (λ some. not_so (old.out_waits some))))
+              (none_of (given_dials (asking_end who) given) old.given_once (λ some. not_so (old.given_waits some).0)) old before differ
         ]
     | inr answered ↦
-        let one : answered_dials who d ≡ 1 = ap (λ (e : Option EndId). answered_dials who e) answered.0 ∙ ap one_if (is_itself who) in
-        let rest_none : given_dials who rest ≡ 0 = ap (λ (g : Given). given_dials who g) answered.2 in
-        let now_none : answered_dials who later ≡ 0 = ap (λ (e : Option EndId). answered_dials who e) answered.1 in
+        let one : answered_dials (asking_end who) d ≡ 1 = ap (λ (e : Option EndId). answered_dials (asking_end who) e) answered.0 ∙ ap one_if (is_itself who) in
+        let rest_none : given_dials (asking_end who) rest ≡ 0 = ap (λ (g : Given). given_dials (asking_end who) g) answered.2 in
+        let now_none : answered_dials (asking_end who) later ≡ 0 = ap (λ (e : Option EndId). answered_dials (asking_end who) e) answered.1 in
         free_step running what now left d later rest dials drawn given (omega (arith, one, rest_none, now_none, old.out_once))
-        (none_of (given_dials who given) old.given_once (λ some. absurd (omega (arith, (old.given_waits some).1, one)))) old before differ
+        (none_of (given_dials (asking_end who) given) old.given_once (λ some. absurd (omega (arith, (old.given_waits some).1, one)))) old before differ
   ]

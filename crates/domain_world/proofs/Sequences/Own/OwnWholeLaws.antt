@@ -63,7 +63,7 @@ use Rattle.domain_world.proofs.Sequences.Own.OwnWalkLaws.{MemberComes}
 use Rattle.domain_world.proofs.Sequences.SeedTurnLaws.{drawn_still}
 use Rattle.domain_world.proofs.Frames.EndNoteLaws.{turns_leave}
 use Rattle.domain_world.proofs.Frames.TurnFrameLaws.{turns_sent}
-use Rattle.domain_world.proofs.Moves.RequesterLaws.{asked_stays, asker_in, asker_is, not_that}
+use Rattle.domain_world.proofs.Moves.RequesterLaws.{asking_end, asked_stays, asker_in, asker_is, not_that}
 use Rattle.domain_world.proofs.Calls.ByRequesterLaws.{seen_so, by_requester_apart}
 
 -- ---- the marks that are written down
@@ -223,8 +223,8 @@ module _ (plan : Plan) (n at : ℕ) (w : Delivery) (piece : List ℕ)
                 (λ who differs.
                 omega (
                   arith,
-                  given_append who given (given_by (Member at) (actions_by (step_of m what s.moment s.chances.left).answer)),
-                  given_other who (Member at) (actions_by (step_of m what s.moment s.chances.left).answer) (not_that who at differs),
+                  given_append (asking_end who) given (given_by (Member at) (actions_by (step_of m what s.moment s.chances.left).answer)),
+                  given_other (asking_end who) (Member at) (actions_by (step_of m what s.moment s.chances.left).answer) (not_that who at differs),
                 ))
                 (λ who differs. others_new holds who differs (asker_in who s.ends) refl) old;
           }
