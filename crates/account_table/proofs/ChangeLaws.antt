@@ -187,7 +187,7 @@ one_state change at place table =
       | inr other ↦ rw other (ap stated (slice_get-other at place (account_by change) table.accounts (λ same. absurd (let equal = eq-eqb at place same in cc))))
     ]
 
--- those of an account that is there or not
+-- the states of an account behind changes, whether the account is there or not
 states_later : (changes : List TableChange) (place : ℕ) (found : Option Account) → option_map (λ account. state_by changes place (state_of account)) found ≡ option_map (state_by changes place) (stated found)
 states_later changes place None = refl
 states_later changes place (Some account) = refl

@@ -111,7 +111,7 @@ position-place_in name entries each = position-place_of (λ (key : Vec ℕ Globa
 
 -- ---- an index
 
--- its parts: few entries, each an entry, of accounts with different names
+-- an index of accounts: few entries, each an entry, of accounts with different names
 pub record IsIndex (entries : List Entry) : Type 0 where
   pub few : length entries ≤ account_limit
   pub each : list_all is_entry entries ≡ true

@@ -60,7 +60,7 @@ many_by limit (Some xs) count same many =
 pub only_if-each_few : {T : Type 0} (limit : ℕ) (form : Data → Option T) (values : List Value) → length values ≤ limit → only_if (at_most limit) (each form (items_view values)) ≡ each form (items_view values)
 only_if-each_few limit form values few = few_by limit (each form (items_view values)) (length values) (length-each form values) few
 
--- and another is refused
+-- a list of more items than the limit is refused
 pub only_if-each_many : {T : Type 0} (limit : ℕ) (form : Data → Option T) (values : List Value) → limit < length values → only_if (at_most limit) (each form (items_view values)) ≡ None
 only_if-each_many limit form values many = many_by limit (each form (items_view values)) (length values) (length-each form values) many
 

@@ -15,11 +15,11 @@ use Rattle.account_table.specs.declared.table.Route.TheVariants as route
 use Rattle.account_table.specs.AccountTable.{AccountTable}
 use Rattle.account_table.specs.Document.{has_name}
 
--- the place of the account of that name
+-- the place of the account of a name
 unfoldable pub place_in : List Account → List ℕ → Option ℕ
 place_in accounts name = place_of (has_name name) accounts
 
--- that account
+-- the account of a name
 abbrev pub account_in : List Account → List ℕ → Option Account
 account_in accounts name = option_and_then (slice_get accounts) (place_in accounts name)
 

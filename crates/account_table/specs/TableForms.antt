@@ -13,8 +13,8 @@ use Rattle.account_table.specs.declared.account.Trust.{Trust}
 abbrev pub IsByte : ℕ → Type 0
 IsByte byte = byte < 2 ^ 8
 
--- so many bytes
-abbrev pub IsBlock : ℕ → List ℕ → Type 0
+-- bytes, as many as `count`
+abbrev pub IsBlock : (count : ℕ) → List ℕ → Type 0
 IsBlock count bytes = (length bytes ≡ count) × All IsByte bytes
 
 -- a security identifier whose numbers have 32 bits

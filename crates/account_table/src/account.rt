@@ -66,7 +66,7 @@ pub struct Account {
 /// A domain that this one trusts (this project's own choice).
 #[derive(Debug, Drop)]
 pub struct Trust {
-    /// Its name.
+    /// The trusted domain's name.
     pub domain: Name,
     /// The secret of this domain's account there.
     pub hash: [u8; 16],

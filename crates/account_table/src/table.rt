@@ -80,7 +80,7 @@ impl Table {
         ensures exact { UpToMemory TableRefused.Memory result (table_of text.now) }
         // A table that is read is the one that the text is,
         ensures found { IfOk result (IsTableText text.now) }
-        // and a text that is a table is read as that one.
+        // A text that is a table is read as that table.
         ensures only { (table : AccountTable) → IsTableText text.now table
             → UpToMemory TableRefused.Memory result (Ok table) }
         // No two accounts have the same name.
@@ -106,7 +106,7 @@ impl Table {
         ensures value { result.now ≡ self.now.domain }
         ensures form { IsName self.now.domain }
     {
-        // so that it is known that the domain has the form of a name
+        // Reading the bytes makes it known that the domain has the form of a name.
         let _bytes = self.domain.bytes();
         &self.domain
     }
@@ -116,7 +116,7 @@ impl Table {
         ensures value { result.now ≡ self.now.sid }
         ensures range { InRangeSid self.now.sid }
     {
-        // so that it is known that its numbers are in range
+        // Reading the numbers makes it known that they are in range.
         are_longs(self.sid.numbers());
         &self.sid
     }

@@ -10,6 +10,6 @@ use Rattle.channel_keys.proofs.CredLaws.{IsBlock-cred_of}
 pub cred_block : (key input : List ℕ) → (length (cred_of key input) ≡ 8) × AreBytes (cred_of key input)
 cred_block key input = ((IsBlock-cred_of key input).eight, bytes_from_all (cred_of key input) (IsBlock-cred_of key input).bytes)
 
--- and so have 8 zeros
+-- 8 zeros are a block of 8 bytes
 pub zeros_block : (length {A = ℕ} (replicate 8 0) ≡ 8) × AreBytes (replicate 8 0)
 zeros_block = (refl, bytes_from_all (replicate 8 0) (All-replicate (λ b. b < 256) 8 0 (omega arith)))

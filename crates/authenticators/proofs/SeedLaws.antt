@@ -49,7 +49,7 @@ add_to-same seed a b e =
     sym (from_le_bytes-to_le_bytes_4 v (omega arith)) ∙ ap (λ z. from_le_bytes w32 (take 4 z)) e ∙ from_le_bytes-to_le_bytes_4 w (omega arith) in
     omega arith
 
--- and conversely
+-- two numbers that are alike modulo 2^32 make one seed of a seed
 pub add_to-alike : (seed : List ℕ) (a b : ℕ) → a % 2 ^ 32 ≡ b % 2 ^ 32 → add_to seed a ≡ add_to seed b
 unfolding add_to
 add_to-alike seed a b e =

@@ -66,14 +66,14 @@ few_later : (logons : List Waiting) → length logons ≤ waiting_limit → leng
 few_later [] few = few
 few_later (logon ∷ logons) few = omega (arith, few)
 
--- the turn goes on with a question
+-- a turn that goes on with a question is for the first logon, as it was
 first_kept : (turn : Option Pending) (logons : List Waiting) (number : ℕ) (q : Question) (st : Step) → step_in turn ≡ Some st → IsForFirst turn logons →
     IsForFirst (Some (record { number = number; place = place_of turn; step = step.Reply q })) logons
 first_kept None logons number q st out is = absurd cc
 first_kept (Some p) [] number q st out is = absurd is
 first_kept (Some p) (logon ∷ logons) number q st out is = (is.0, tt)
 
--- likewise where it sets a secret
+-- a turn that goes on to set a secret is for the first logon, as it was
 first_set : (turn : Option Pending) (logons : List Waiting) (number : ℕ) (st : Step) → step_in turn ≡ Some st → IsForFirst turn logons →
     IsForFirst (Some (record { number = number; place = place_of turn; step = step.Set set_step.Reply })) logons
 first_set None logons number st out is = absurd cc
@@ -88,7 +88,7 @@ differ place count some few same = omega (arith, some, few, same)
 after_more : (place count : ℕ) → after ((place + count) % 2 ^ 32) ≡ (place + (count + 1)) % 2 ^ 32
 after_more place count = omega arith
 
--- logons whose first place is so many behind a place
+-- logons whose first place is `count` behind `place`
 apart_from : (place count : ℕ) (logons : List Waiting) (next : ℕ) → first_place logons next ≡ (place + count) % 2 ^ 32 → AreInOrder logons next →
     1 ≤ count → count + length logons ≤ 2 ^ 32 → AllByRecursion (λ later. place ≢ later.place) logons
 apart_from place count [] next is are some few = tt
@@ -355,7 +355,7 @@ going controller s turn q c e f m =
     subst (λ x. Goes controller s x q) (sym e) (subst (λ x. Goes controller s (Some (step.Bind c)) x) (sym f)
     (going_at controller s.caller.computer s.standing c (number_in s.turn) s.next_call (subst (λ x. MatchesStep s.standing x) e m)))
 
--- ---- the same of a turn that sets a secret
+-- ---- a turn that sets a secret
 
 abbrev pub GoesSetAt : ℕ → List ℕ → Standing → Option Step → ℕ → ℕ → Type 0
 GoesSetAt controller computer how turn number next =

@@ -91,7 +91,7 @@ acted_gives (hearing.Reply q r) s none = settled_gives (judge q r s.standing s.c
 acted_gives (hearing.Drop cause) s none = refl
 acted_gives (hearing.Set what) s none = absurd cc
 
--- ---- it stays so
+-- ---- a requester that has no next secret stays one
 
 asked_none : (full : Bool) (s : Requester) (info : NetworkInfo) → HasNoNext s → HasNoNext (ask_by full s info).state
 asked_none true s info none = none

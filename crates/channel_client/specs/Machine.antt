@@ -94,7 +94,7 @@ fresh_requester caller = record {
 
 -- ---- the secrets
 
--- another secret, of a channel that is none
+-- a requester whose channel is none, with another secret
 abbrev pub use_secret_of : Requester → List ℕ → Requester
 use_secret_of s secret = record s { caller = record s.caller { secret = secret } }
 
@@ -130,7 +130,7 @@ AsksBy (Err refused.Memory) asking old new = new ≡ old
 
 -- ---- a turn that starts
 
--- whether it draws a challenge
+-- whether a turn that starts draws a challenge
 abbrev pub needs_challenge : Standing → Bool
 needs_challenge standing.Nothing = true
 needs_challenge (standing.Half client server) = false
@@ -396,12 +396,12 @@ abbrev pub place_of : Option Pending → ℕ
 place_of None = 0
 place_of (Some p) = p.place
 
--- the turn ends, and the channel stands so
-abbrev pub end_turn : Standing → Requester → Requester
+-- a turn ends, and the channel stands as `how` says
+abbrev pub end_turn : (how : Standing) → Requester → Requester
 end_turn how s = record s { standing = how; turn = None }
 
--- besides, the first logon waits no more
-abbrev pub remove_first : Standing → Requester → Requester
+-- a turn ends, the channel stands as `how` says, and the first logon waits no more
+abbrev pub remove_first : (how : Standing) → Requester → Requester
 remove_first how s = record s { standing = how; waiting = later_logons s.waiting; turn = None }
 
 abbrev pub settle : Judgement → Requester → Taking

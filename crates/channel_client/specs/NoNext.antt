@@ -76,7 +76,7 @@ pub record SetsNothing : Type 0 where
   -- no unit is heard as one of a turn that sets a secret, and none sets one
   pub hears : (s : Requester) (unit : RpcUnit) → HasNoNext s → hears_set (hear s.turn unit s.next_call) ≡ false
   pub gives : (s : Requester) (unit : RpcUnit) → HasNoNext s → gives_set (take_of s unit).taken ≡ false
-  -- it stays so, whichever secret opens the channel
+  -- a requester that has no next secret stays one, whichever secret opens the channel
   pub fresh : (caller : Caller) → HasNoNext (fresh_requester caller)
   pub asked : (s : Requester) (info : NetworkInfo) → HasNoNext s → HasNoNext (ask_of s info).state
   pub started : (s : Requester) (timestamp : ℕ) (challenge : List ℕ) → HasNoNext s → HasNoNext (start_of s timestamp challenge).state

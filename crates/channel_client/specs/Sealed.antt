@@ -53,7 +53,8 @@ fresh_channel_of sealing caller = record (fresh_requester caller) { sealing = se
 
 -- ---- a turn that starts
 
--- whether it draws a challenge: one that seals draws the confounder of a call on the open channel
+-- whether a turn that starts draws a challenge: where the channel seals, a turn on the open channel draws the
+-- confounder of its call
 abbrev pub draws_challenge : Option Sealing → Standing → Bool
 draws_challenge None how = needs_challenge how
 draws_challenge (Some g) standing.Nothing = true
@@ -124,7 +125,7 @@ channel_start s timestamp challenge = start_with s.sealing s timestamp challenge
 
 -- ---- what a unit comes to for a turn on the open channel: the request goes out with room for signatures
 
--- the frames of a request with room for signatures, for a peer that receives so many bytes
+-- the frames of a request with room for signatures, for a peer that receives `receive` bytes
 abbrev pub room_frames_of : (request : RpcUnit) (receive : ℕ) → List (List ℕ)
 room_frames_of request receive = frames_of (with_room own_context request) (sealed_limit receive)
 

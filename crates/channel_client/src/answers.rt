@@ -11,7 +11,7 @@ use wire_base::NoMemory;
 /// What a unit comes to.
 #[derive(Debug, Drop)]
 pub enum Taken {
-    /// It answers nothing that the turn waits for.
+    /// The unit answers nothing that the turn waits for.
     Skip(Turn),
     /// The frames of the request, which go out now.
     Next(Turn, ShortFrames),
@@ -30,7 +30,7 @@ pub enum Taken {
 /// Why a logon can't wait.
 #[derive(Clone, Copy, Debug, PartialEq, Eq, Error)]
 pub enum AskRefused {
-    /// As many logons wait as may: 64 (this project's own choice).
+    /// 64 logons wait, as many as may (this project's own choice).
     #[error("64 logons wait")]
     QueueFull,
     /// No memory was found.

@@ -29,8 +29,8 @@ pub struct Channel {
 }
 
 impl Drop for Channel {
-    // As it would be derived. Written out, it is one call wherever a value that holds one is let go, which keeps the
-    // proofs of those places short.
+    // The drop that would be derived. Written out, it is one call wherever a value that holds a `Channel` is let go,
+    // which keeps the proofs of those places short.
     fn drop(self) {
         let Channel { kept: _kept } = self;
     }

@@ -29,11 +29,11 @@ use wire_base::{Blob, NoMemory};
 /// What a unit comes to for the turn that is out.
 #[derive(Debug, Drop)]
 pub enum Hearing {
-    /// It answers nothing that the turn waits for.
+    /// The unit answers nothing that the turn waits for.
     Skip,
     /// The request of that question goes out, in these frames.
     Next(Question, ShortFrames),
-    /// It is the reply to the question.
+    /// The unit is the reply to the question.
     Reply(Question, Reply),
     /// The turn ends without an answer.
     Drop(DropCause),
@@ -46,7 +46,7 @@ pub enum Hearing {
 pub enum SetHearing {
     /// The request goes out, in these frames.
     Next(ShortFrames),
-    /// It is the reply.
+    /// The unit is the reply to the call that sets the secret.
     Reply(SetReply),
 }
 
@@ -117,7 +117,7 @@ fn is_accepting(results: &Results) -> bool
     }
 }
 
-/// What a bind_ack comes to, of a peer that receives so many bytes.
+/// What a bind_ack comes to, of a peer that receives `receive` bytes.
 fn hear_ack(
     alloc: Global,
     accepting: bool,
@@ -202,7 +202,7 @@ fn short_room(alloc: Global, unit: Unit, receive: u16) -> Result<ShortFrames, No
     Ok(ShortFrames::new(room_frames(alloc, unit, OWN_CONTEXT, receive)?))
 }
 
-/// The frames of the request of this call number and operation, on context 0, for a peer that receives so many bytes.
+/// The frames of the request of this call number and operation, on context 0, for a peer that receives `receive` bytes.
 fn request_frames(
     alloc: Global,
     opnum: u16,
@@ -229,7 +229,7 @@ fn set_stub(alloc: Global, call: &SetCall) -> Result<Blob, NoMemory>
     Ok(stub)
 }
 
-/// The stub of such a call is short enough for one send.
+/// The stub of a call that sets a secret is short enough for one send.
 #[tactic(auto, using(crate::proofs::StubLaws::set_stub_short))]
 fn is_short_stub(call: &SetCall, stub: &Blob)
     requires sends { CanSendSet call.now }

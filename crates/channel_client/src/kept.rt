@@ -45,8 +45,8 @@ pub(crate) struct Kept {
 }
 
 impl Drop for Kept {
-    // As it would be derived. Written out, it is one call wherever a value that holds one is let go, which keeps the
-    // proofs of those places short.
+    // The drop that would be derived. Written out, it is one call wherever a value that holds a `Kept` is let go, which
+    // keeps the proofs of those places short.
     fn drop(self) {
         let Kept {
             caller: _caller,
@@ -110,7 +110,7 @@ impl Kept {
         ensures { IfOk result (λ channel. channel ≡ fresh_requester
             (record { secret = secret; computer = computer; account = account; kind = kind })) }
     {
-        // so that it is known that the name has at most 64 bytes
+        // Reading the bytes makes it known that the name has at most 64 bytes.
         let _short = computer.bytes();
         let computer = computer.units(alloc)?;
         let caller = Caller {
@@ -662,7 +662,7 @@ impl Kept {
         place
     }
 
-    /// The turn ends, and the channel stands so.
+    /// The turn ends, and the channel stands as `standing`.
     fn end_turn(&mut self, standing: Standing)
         ensures { self.new ≡ end_turn standing self.old }
     {
@@ -670,7 +670,7 @@ impl Kept {
         self.turn = None;
     }
 
-    /// The turn ends, the channel stands so, and the first logon waits no more.
+    /// The turn ends, the channel stands as `standing`, and the first logon waits no more.
     fn remove_first(&mut self, standing: Standing)
         ensures { self.new ≡ remove_first standing self.old }
     {

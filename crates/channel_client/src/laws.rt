@@ -49,7 +49,7 @@ pub fn grants_can_be_written()
 {}
 
 /// Without a next secret none is set: a turn begins as one of an end that can't set one, no unit is heard as the answer
-/// to a change, and it stays so.
+/// to a change, and an end without a next secret stays one.
 #[tactic(auto, using(crate::proofs::NoNextLaws::sets_nothing))]
 pub fn nothing_is_set_without_a_next_secret()
     ensures { SetsNothing }

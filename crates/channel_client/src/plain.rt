@@ -27,8 +27,8 @@ pub struct PlainChannel {
 }
 
 impl Drop for PlainChannel {
-    // As it would be derived. Written out, it is one call wherever a value that holds one is let go, which keeps the
-    // proofs of those places short.
+    // The drop that would be derived. Written out, it is one call wherever a value that holds a `PlainChannel` is let
+    // go, which keeps the proofs of those places short.
     fn drop(self) {
         let PlainChannel { kept: _kept } = self;
     }

@@ -31,7 +31,7 @@ impl Model for ShortFrames {
 }
 
 impl ShortFrames {
-    /// These frames. It takes no memory.
+    /// Frames that have room in one send. It takes no memory.
     pub(crate) fn new(frames: Frames) -> ShortFrames
         requires { length (joined_frames frames) ≤ send_limit }
         ensures { result ≡ frames }

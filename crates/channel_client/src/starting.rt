@@ -262,7 +262,7 @@ fn change_call(
     ensures unchanged { OnErr result (channel.new ≡ channel.old) }
     ensures writable { IfOk result (λ call. CanSendSet call) }
 {
-    // so that it is known that numbers and texts have their widths
+    // Reading them makes it known that numbers and texts have their widths.
     are_units(caller.account.units());
     are_units(caller.computer.units());
     is_short(caller.kind);

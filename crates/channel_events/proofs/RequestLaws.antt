@@ -67,7 +67,7 @@ calmer Drops u v calm change room =
       few = omega arith;
     })
 
--- as many numbers are used as the effect uses
+-- a change uses at most as many numbers of the requester as its effect does
 few_used : (effect : Effect) (u v : View) → IsCalm effect → Changes effect u v → u.call + 1 < 2 ^ 32 → v.call ≤ u.call + used_by effect
 few_used Stays u v calm change room = omega (arith, ap (λ (x : View). x.call) change)
 few_used Counts u v calm change room = omega (arith, ap (λ (x : View). x.call) change, after_is u.call room)

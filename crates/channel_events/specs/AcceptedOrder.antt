@@ -53,8 +53,8 @@ HasOwn controller computer challenge accepted =
 abbrev pub IsCalledBy : List Mark → ℕ → List ℕ → List ℕ → ChannelIdentity → Type 0
 IsCalledBy marks controller computer challenge c = IsOf controller computer c → IsCalled marks c → c.client ≡ challenge
 
--- calls on the computer's channels that were accepted behind such an opening were made with that challenge
-abbrev pub IsBehind : List Mark → ℕ → List ℕ → List ℕ → List Accepted → Type 0
+-- calls on the computer's channels that were accepted behind an opening with `challenge` were made with that challenge
+abbrev pub IsBehind : List Mark → (controller : ℕ) (computer challenge : List ℕ) → List Accepted → Type 0
 IsBehind marks controller computer challenge [] = Unit {0}
 IsBehind marks controller computer challenge (one ∷ older) =
     (HasOwn controller computer challenge older → IsCalledBy marks controller computer challenge one.channel) × IsBehind marks controller computer challenge older
@@ -95,10 +95,10 @@ pub record BeginsAnew {Who : Type 0} (r : Requests Who) (new : Who → Option Vi
 abbrev pub IsNoCall : Mark → Type 0
 IsNoCall mark = (c : ChannelIdentity) (number timestamp : ℕ) → mark ≡ Calling c number timestamp → ⊥
 
--- It stays so through each thing that happens: an opening that is accepted, whose server's challenge opened none
--- before; requesters that hold no more; one that begins an opening; one that calls on its channel; and any other unit.
--- So where a controller keeps the channel that was accepted last for the computer, and a call was made on it, it has
--- the challenge of the opening that the requester holds, if one with it was accepted.
+-- Openings and calls stay in order through each thing that happens: an opening that is accepted, whose server's
+-- challenge opened none before; requesters that hold no more; one that begins an opening; one that calls on its
+-- channel; and any other unit. So where a controller keeps the channel that was accepted last for the computer, and a
+-- call was made on it, it has the challenge of the opening that the requester holds, if one with it was accepted.
 pub record AcceptedStayInOrder (Who : Type 0) : Type 0 where
   -- at first nothing was accepted: no call was made, and no channel stands
   pub first : (r : Requests Who) (who : Who) (controller : ℕ) (computer : List ℕ) →

@@ -62,8 +62,8 @@ pub record CallsAreApart {Who : Type 0} (r : Requests Who) : Type 0 where
 
 -- ---- what happens
 
--- each requester is as before but for one, which is seen so where it is seen
-abbrev pub AreSeenBut : {Who : Type 0} → (Who → Option View) → (Who → Option View) → Who → View → Type 0
+-- each requester is seen as before, but for `who`, which is seen as `view` where it is seen
+abbrev pub AreSeenBut : {Who : Type 0} → (Who → Option View) → (Who → Option View) → (who : Who) (view : View) → Type 0
 AreSeenBut {Who} old new who view = (j : Who) (v : View) → new j ≡ Some v → ((j ≡ who) × (v ≡ view)) ⊎ (old j ≡ Some v)
 
 -- nothing of what a call rests on is new, whatever the effect, but that an opening begins and that a call goes out

@@ -128,17 +128,17 @@ pub record StayTogether (Who : Type 0) : Type 0 where
   pub begins : (r : Requests Who) (who : Who) (controller : ℕ) (computer : List ℕ) (accepted : List Accepted) (s : Sides) (views : Who → Option View) (client : List ℕ) →
       BeginsAnew r views client → CallsAreApart r → AreInOrder r who controller computer accepted → AreTogether r who controller computer accepted s →
       AreTogether (record r { views = views }) who controller computer accepted s
-  -- its channel opens: the secret that is tried is the hash
+  -- the requester's channel opens: the secret that is tried is the hash
   pub opens : (r : Requests Who) (who : Who) (controller : ℕ) (computer : List ℕ) (accepted : List Accepted) (s : Sides) (views : Who → Option View) (held : SecretsState) →
       OpensTried r who controller computer accepted s → ((v : View) → views who ≡ Some v → v.opening ≡ None) →
       (tried_of s.held ≡ s.hash → HoldsSecret s.hash held) → CallsAreApart r → AreInOrder r who controller computer accepted → AreTogether r who controller computer accepted s →
       AreTogether (record r { views = views }) who controller computer accepted (record s { held = held; out = None })
-  -- it hears that its secret was taken: the next one is the hash
+  -- the requester hears that its secret was taken: the next one is the hash
   pub hears : (r : Requests Who) (who : Who) (controller : ℕ) (computer : List ℕ) (accepted : List Accepted) (s : Sides) (views : Who → Option View) (held : SecretsState) (unit : ℕ) →
       s.out ≡ Some unit → IsIn unit s.took → OthersPassed r who controller computer s (Some unit) → OpensNoMore r.views views who →
       (next_of s.held ≡ Some s.hash → HoldsSecret s.hash held) → AreInOrder r who controller computer accepted → AreTogether r who controller computer accepted s →
       AreTogether (record r { views = views }) who controller computer accepted (record s { held = held; out = None })
-  -- its call goes out that sets the next secret
+  -- the requester's call goes out that sets the next secret
   pub sends : (r : Requests Who) (who : Who) (controller : ℕ) (computer : List ℕ) (accepted : List Accepted) (s : Sides) (c : ChannelIdentity) (number timestamp : ℕ) (asks : ℕ → Option (List ℕ)) →
       AskAlike r.marks s.asks asks → asks (length r.marks) ≡ next_of s.held → (IsIn (length r.marks) s.took → ⊥) → s.out ≡ None →
       AreTogether r who controller computer accepted s →

@@ -16,14 +16,14 @@ strong_key_of secret client server = hmac_of secret (md5 (replicate 4 0 ++ clien
 
 -- ---- the DES key (3.1.4.3.3)
 
--- the sum, modulo 2^32, of two numbers of four bytes each, low byte first
-unfoldable pub word_plus : List ℕ → List ℕ → List ℕ
-word_plus x y = to_le_bytes w32 ((from_le_bytes w32 x + from_le_bytes w32 y) % 2 ^ 32)
+-- the sum, modulo 2^32, of the numbers that two halves of 4 bytes are, low byte first
+unfoldable pub half_sum : List ℕ → List ℕ → List ℕ
+half_sum x y = to_le_bytes w32 ((from_le_bytes w32 x + from_le_bytes w32 y) % 2 ^ 32)
 
--- both challenges added half by half
+-- the client's and the server's challenge, added half by half
 unfoldable pub halves_sum : List ℕ → List ℕ → List ℕ
 halves_sum client server =
-    word_plus (take 4 client) (take 4 server) ++ word_plus (take 4 (drop 4 client)) (take 4 (drop 4 server))
+    half_sum (take 4 client) (take 4 server) ++ half_sum (take 4 (drop 4 client)) (take 4 (drop 4 server))
 
 -- the sum under bytes 0 to 6 of the secret and then under bytes 9 to 15, and eight zeros
 unfoldable pub des_key_of : List ℕ → List ℕ → List ℕ → List ℕ

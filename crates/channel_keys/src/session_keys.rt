@@ -2,7 +2,7 @@
 
 ghost use Rattle.std.specs.Prelude.{◌≡◌, ◌≤◌, ◌++◌, take, drop};
 ghost use Rattle.std.specs.Int.{w32, from_le_bytes};
-ghost use Rattle.channel_keys.specs.SessionKeys.{strong_key_of, des_key_of, key_of, word_plus, halves_sum};
+ghost use Rattle.channel_keys.specs.SessionKeys.{strong_key_of, des_key_of, key_of, half_sum, halves_sum};
 
 use crate::flags::STRONG_KEY;
 use crate::parts::des_under;
@@ -66,10 +66,10 @@ fn join(first: [u8; 4], second: [u8; 4]) -> [u8; 8]
 }
 
 /// The sum of the numbers of four bytes, low byte first, at a place of two challenges, modulo 2^32.
-#[tactic(auto, unfolding(crate::specs::SessionKeys::word_plus))]
+#[tactic(auto, unfolding(crate::specs::SessionKeys::half_sum))]
 fn half_sum(client: &[u8; 8], server: &[u8; 8], at: usize) -> [u8; 4]
     requires { at ≤ 4 }
-    ensures { result ≡ word_plus (take 4 (drop at client.now)) (take 4 (drop at server.now)) }
+    ensures { result ≡ half_sum (take 4 (drop at client.now)) (take 4 (drop at server.now)) }
 {
     let sum = word(client, at).wrapping_add(word(server, at));
     sum.to_le_bytes()

@@ -93,7 +93,7 @@ sealed_ack_short served call receive contexts context few =
       few,
     )
 
--- it is sent as one whole unit
+-- a bind of a channel that seals is sent as one whole unit
 pub sealed_bind_whole : (interface : Syntax) (call : ℕ) (value : List ℕ) → length interface.uuid ≡ 16 → AreBytes interface.uuid → interface.version < 2 ^ 32 → call < 2 ^ 32 → 0 < length value → length value ≤ 138 →
     AreBytes value → IsWholeSend (written (sealed_bind_of interface call value))
 unfolding joined_of

@@ -150,7 +150,7 @@ sealed_front one front confounder to order within =
     let c = combined_range (sealing_key_of one.key (sequence_bytes one.sent one.requester)) front 24 to order within in
     (c.0, c.1, ap (λ x. x ++ signature) c.2 ∙ replaced_front front signature c.0 to order within)
 
--- the other end's signature of the same plain bytes
+-- an end that follows the other makes the other's signature of the plain bytes
 same_signature : (one other : NlState) (front confounder : List ℕ) → Follows one other →
     signature_of other.key other.received (not other.requester) front confounder ≡ signature_of one.key one.sent one.requester front confounder
 same_signature one other front confounder f =

@@ -200,7 +200,7 @@ joined_more (x ∷ xs) ys = omega (arith, length-append x (joined_frames (xs ++ 
 joined_one : (x : List ℕ) (xs : List (List ℕ)) → length (joined_frames (x ∷ xs)) ≡ length x + length (joined_frames xs)
 joined_one x xs = length-append x (joined_frames xs)
 
--- as many bytes, and as many frames, as before
+-- one more frame that is sealed leaves as many bytes, and as many frames, as there were
 pub walk_size : (old new : List (List ℕ)) (at : ℕ) (done : List ℕ) → at < length old → IsDone old new at done → length done ≡ length (get_or old at []) →
     (length (joined_frames new) ≡ length (joined_frames old)) × (length new ≡ length old)
 walk_size old new at done within is same =

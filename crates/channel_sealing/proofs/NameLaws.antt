@@ -30,7 +30,7 @@ text_more bytes at within some =
     ∙ front_more (take at bytes) byte (drop (at + 1) bytes) (text_of (drop (at + 1) bytes))
     ∙ ap (λ (front : List ℕ). behind_front front (text_of (drop (at + 1) bytes))) (sym (take_more bytes at 0 within))
 
--- it ends at a zero
+-- a text ends at a zero
 pub text_ends : (bytes : List ℕ) (at : ℕ) → at < length bytes → get_or bytes at 0 ≡ 0 →
     behind_front (take at bytes) (text_of (drop at bytes)) ≡ Some (take at bytes, drop (at + 1) bytes)
 unfolding text_of
@@ -58,7 +58,7 @@ names_written : (domain computer more : List ℕ) → AllByRecursion (λ (byte :
 names_written domain computer more one other =
     ap names_by (text_written domain (computer ++ 0 ∷ more) one) ∙ ap (names_with domain) (text_written computer more other)
 
--- both names, one behind the other
+-- two names, one behind the other
 apart : (domain computer more : List ℕ) → ((domain ++ 0 ∷ []) ++ (computer ++ 0 ∷ [])) ++ more ≡ domain ++ 0 ∷ (computer ++ 0 ∷ more)
 apart domain computer more =
     append_assoc (domain ++ 0 ∷ []) (computer ++ 0 ∷ []) more

@@ -42,7 +42,7 @@ abbrev pub seal_in : Option (ℕ × ℕ) → NlState → List ℕ → List ℕ �
 seal_in None seal confounder frame = None
 seal_in (Some range) seal confounder frame = frame_with (seal_of seal frame range.0 range.1 confounder)
 
--- a frame that has such a trailer
+-- a frame with room for a signature at its end
 abbrev pub HasRoom : List ℕ → Type 0
 HasRoom frame = is_some (range_of frame) ≡ true
 

@@ -19,7 +19,7 @@ netlogon_provider = 68
 abbrev pub own_context : ℕ
 own_context = 1
 
--- its trailer of that context, with that value, at the level at which stubs are sealed
+-- a trailer of Netlogon with a context number and a value, at the level at which stubs are sealed
 abbrev pub trailer_of : (context : ℕ) (value : List ℕ) → Trailer
 trailer_of context value = record { kind = netlogon_provider; level = privacy_level; context = context; value = value }
 
@@ -44,8 +44,8 @@ ack_value = (1 ∷ 0 ∷ 0 ∷ 0 ∷ []) ++ replicate 8 0
 abbrev pub least_sealed_limit : ℕ
 least_sealed_limit = 1432 + 16
 
--- the limit of a sealed link, for a peer that receives so many bytes
-abbrev pub sealed_link_limit : ℕ → ℕ
+-- the limit of a sealed link, for a peer that receives `receive` bytes
+abbrev pub sealed_link_limit : (receive : ℕ) → ℕ
 sealed_link_limit receive = max least_sealed_limit (limit_of receive)
 
 abbrev pub with_limit : (limit : ℕ) (body : Body) → Body
@@ -61,7 +61,7 @@ with_limit limit (Fault hint context status) = Fault hint context status
 abbrev pub with_ack : RpcUnit → (limit : ℕ) (trailer : Trailer) → RpcUnit
 with_ack unit limit trailer = record unit { body = with_limit limit unit.body; trailer = Some trailer }
 
--- the answer to such a bind, whose trailer has that context: the link sends by its limit
+-- the answer to a bind of a channel that seals, with a trailer of that context number: the link sends by its limit
 abbrev pub sealed_ack_of : (served : Syntax) (call receive : ℕ) (contexts : List (ℕ × Syntax × List Syntax)) (context : ℕ) → RpcUnit
 sealed_ack_of served call receive contexts context =
     with_ack (ack_of served call receive contexts) (sealed_link_limit receive) (trailer_of context ack_value)
@@ -72,7 +72,7 @@ sealed_ack_of served call receive contexts context =
 abbrev pub with_room : (context : ℕ) (unit : RpcUnit) → RpcUnit
 with_room context unit = record unit { trailer = Some (trailer_of context (replicate 32 0)) }
 
--- the limit by which it is cut, for a peer that receives so many bytes: it is that of the link, less the 16 bytes that
--- a signature is longer than the one that cutting leaves room for
-abbrev pub sealed_limit : ℕ → ℕ
+-- the limit by which a sealed call is cut, for a peer that receives `receive` bytes: it is that of the link, less the
+-- 16 bytes that a signature is longer than the one that cutting leaves room for
+abbrev pub sealed_limit : (receive : ℕ) → ℕ
 sealed_limit receive = sealed_link_limit receive - 16

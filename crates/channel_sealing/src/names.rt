@@ -19,7 +19,7 @@ pub fn bind_names(value: &[u8]) -> Option<(&[u8], &[u8])>
     names_in(&value[8..])
 }
 
-/// Both names.
+/// Two names, the domain's and the computer's, each before a zero; None where a zero is missing.
 fn names_in(bytes: &[u8]) -> Option<(&[u8], &[u8])>
     ensures { MatchOption result (names_in bytes.now ≡ None)
         (λ names. names_in bytes.now ≡ Some (names.0.now, names.1.now)) }

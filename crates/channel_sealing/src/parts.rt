@@ -16,7 +16,7 @@ pub enum SealedPart {
     Nothing,
     /// Of a request or response, the bytes from that place to before the other, by the signature in the last 32 bytes.
     Range(usize, usize),
-    /// It is a request or response without such a signature.
+    /// All of it is missing: the unit is a request or response without a signature in its last 32 bytes.
     Missing,
 }
 
@@ -36,7 +36,7 @@ pub fn sealed_part(bytes: &[u8]) -> SealedPart
     part_if(is_own_trailer(&view.trailer), bytes)
 }
 
-/// Whether it is a request or a response.
+/// Whether a unit is a request or a response.
 fn has_sealed_part(body: &BodyView<'_>) -> bool
     ensures { result ≡ has_sealed_part (body_shown body.now) }
 {
@@ -50,7 +50,7 @@ fn has_sealed_part(body: &BodyView<'_>) -> bool
     }
 }
 
-/// Whether it is a trailer of Netlogon at the level at which stubs are sealed.
+/// Whether a trailer is one of Netlogon at the level at which stubs are sealed.
 fn is_own_trailer(trailer: &Option<TrailerView<'_>>) -> bool
     ensures { result ≡ is_own_trailer (option_map trailer_shown trailer.now) }
 {
@@ -60,7 +60,7 @@ fn is_own_trailer(trailer: &Option<TrailerView<'_>>) -> bool
     }
 }
 
-/// The range in front of such a trailer's value of 32 bytes.
+/// The part that is sealed, where the trailer is the channel's own: the range in front of its value of 32 bytes.
 fn part_if(own: bool, bytes: &[u8]) -> SealedPart
     ensures value { result ≡ part_if own (range_of bytes.now) }
     ensures inside { IsInUnit bytes.now result }

@@ -64,8 +64,9 @@ pub fn sealed_bind(
     bind_unit(alloc, interface, call, value)
 }
 
-/// The answer to such a bind, whose trailer has that context (C706 12.6.4.4, MS-NRPC 2.2.1.3.1). It can be written, and
-/// with at most 241 contexts, as many as a bind with such a trailer has room for, it is never too long.
+/// The answer to a bind of a channel that seals, with a trailer of that context number (C706 12.6.4.4, MS-NRPC
+/// 2.2.1.3.1). It can be written, and with at most 241 contexts, as many as a bind with a trailer has room for, it is
+/// never too long.
 #[tactic(auto, using(crate::proofs::BindLaws::sealed_ack_short, crate::proofs::BindLaws::sealed_ack_writable))]
 pub fn sealed_ack(
     alloc: Global,
@@ -154,7 +155,7 @@ fn bind_unit(alloc: Global, interface: &Syntax, call: u32, value: &Blob) -> Resu
     })
 }
 
-/// The limit of a sealed link, for a peer that receives so many bytes: at least 1,448 (this project's own choice).
+/// The limit of a sealed link, for a peer that receives `receive` bytes: at least 1,448 (this project's own choice).
 pub fn sealed_link_limit(receive: u16) -> u16
     ensures value { result ≡ sealed_link_limit receive }
     ensures least { least_sealed_limit ≤ result }
@@ -163,7 +164,7 @@ pub fn sealed_link_limit(receive: u16) -> u16
     fragment_limit(receive).max(1448)
 }
 
-/// The limit by which a call is cut that is sealed, for a peer that receives so many bytes: that of the link less 16
+/// The limit by which a call is cut that is sealed, for a peer that receives `receive` bytes: that of the link less 16
 /// (this project's own choice).
 pub fn sealed_limit(receive: u16) -> u16
     ensures value { result ≡ sealed_limit receive }

@@ -33,7 +33,7 @@ end_of (taken.Answer place verdict) = Some (turn_end.Answer place verdict)
 end_of (taken.Dropped place cause) = Some (turn_end.Dropped place cause)
 end_of taken.Set = Some turn_end.Set
 
--- it is passed over, sends the next request, or ends the turn
+-- a unit is passed over, sends the next request, or ends the turn
 pub record ByTaken (what : Taken) (joiner : Option RpcUnit) (at : TurnWork) (Holds : TurnServed → Type 0) : Type 0 where
   pub skips : (right : Unit {0}) → what ≡ taken.Skip right → Holds (at, Some (turn_talk joiner))
   pub sends : (right : Unit {0}) (frames : List (List ℕ)) → what ≡ taken.Next right frames →

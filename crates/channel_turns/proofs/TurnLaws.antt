@@ -26,7 +26,7 @@ use Rattle.channel_turns.specs.Turns.{TurnServed, do_heard, do_taken, served_by,
 use Rattle.channel_turns.proofs.KeepLaws.{end_of, taken_by, turn_stays}
 use Rattle.channel_turns.proofs.ServedLaws.{served_part}
 
--- ---- it ends once
+-- ---- a turn ends once
 
 ends_once : (cut : Cut) (at : TurnWork) (talk : TurnTalk) → at.ended ≡ None → EndsOnce (turn_served cut at talk)
 ends_once cut at talk not_yet =
@@ -42,7 +42,7 @@ ends_once cut at talk not_yet =
       breaks = λ cause at talk ends. refl;
     }) cut at talk not_yet
 
--- ---- it is out while its link stays open
+-- ---- a turn is out while its link stays open
 
 abbrev IsOutWhile : TurnServed → Type 0
 IsOutWhile served = is_out served.0.channel ≡ is_some served.1

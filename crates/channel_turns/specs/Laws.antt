@@ -34,10 +34,10 @@ EndsOnce (at, None) = is_some at.ended ≡ true
 EndsOnce (at, Some talk) = at.ended ≡ None
 
 pub record TurnsEndOnce : Type 0 where
-  -- served by the words for any end's units, it is the same, and no challenge is drawn
+  -- a unit that is served by the words for any end's units comes to the same, and no challenge is drawn
   pub part : (cut : Cut) (at : TurnWork) (talk : TurnTalk) (left : List (List ℕ)) →
       served_cut turn_server cut at talk left ≡ Ok (record { value = turn_served cut at talk; left = left })
-  -- where it hasn't ended before, it ends at the unit that closes the link, or the link stays open
+  -- a turn that hasn't ended before ends at the unit that closes the link, or the link stays open
   pub once : (cut : Cut) (at : TurnWork) (talk : TurnTalk) → at.ended ≡ None → EndsOnce (turn_served cut at talk)
   -- a turn is out exactly while its link stays open
   pub out : (cut : Cut) (at : TurnWork) (talk : TurnTalk) → is_out at.channel ≡ true →

@@ -203,7 +203,7 @@ next_sealed_turn now channel left =
 abbrev pub next_sealed_dial : (now : ℕ) (peer : List ℕ) (turning : Turning) → List (List ℕ) → Result (Part Turning) StepRefused
 next_sealed_dial now peer turning left = then_part (next_sealed_turn now turning.channel left) (dial_part peer turning)
 
--- ---- what holds of a unit on such a link
+-- ---- what holds of a unit on the link of a turn of a channel that seals
 
 -- where the turn was lost since a response wasn't sealed as it was to be
 abbrev pub LostForSeal : SealedWork → SealedServed → Type 0

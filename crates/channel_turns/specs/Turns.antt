@@ -106,7 +106,7 @@ abbrev pub serve_turn : TurnWork → LinkState TurnTalk → List ℕ → TurnWor
 serve_turn at said piece =
     after_turn (turn_served (cut_stream (said.rest ++ piece)) at said.talk) (cut_stream (said.rest ++ piece)).rest
 
--- ---- the same by the words for any end's units
+-- ---- units on the link of a turn, by the words for any end's units
 
 abbrev pub unit_part : List ℕ → TurnWork → TurnTalk → List (List ℕ) → ServedPart TurnWork TurnTalk
 unit_part bytes at talk left = Ok (record { value = turn_unit (unit_of bytes) talk.joiner at; left = left })

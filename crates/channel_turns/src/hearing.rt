@@ -14,11 +14,11 @@ use wire_base::NoMemory;
 /// What a unit on a link comes to, before anybody judges it.
 #[derive(Drop)]
 pub enum Heard {
-    /// It is a fragment, and more are to come.
+    /// The unit is a fragment, and more are to come.
     Waits(Joiner),
-    /// It makes this whole unit; this is open then.
+    /// The unit makes this whole unit, and leaves this joiner.
     Whole(Unit, Joiner),
-    /// It is refused, and closes the link for this cause.
+    /// The unit is refused, and closes the link for this cause.
     Broken(CloseCause),
 }
 
@@ -35,7 +35,7 @@ pub fn hear(alloc: Global, bytes: &[u8], joiner: Joiner) -> Result<Heard, NoMemo
     }
 }
 
-/// It is joined.
+/// A unit is joined to the fragments that came.
 fn join(unit: Unit, joiner: Joiner) -> Result<Heard, NoMemory>
     ensures { IfOk result
         (λ heard. heard ≡ heard_by (answer_of joiner unit) (open_after joiner unit)) }

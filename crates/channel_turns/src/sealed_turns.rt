@@ -98,7 +98,7 @@ fn with_need(at: SealedWork) -> (SealedWork, bool)
     (at, is_link_sealed && sealed)
 }
 
-/// Whether it is a response.
+/// Whether a body is that of a response.
 fn is_response(body: &BodyView<'_>) -> bool
     ensures { result ≡ is_response (body_shown body.now) }
 {
@@ -614,7 +614,8 @@ fn next_sealed_turn<Q: Chances>(
     }
 }
 
-/// As `next_dial`, of a channel that seals: a turn on the open channel draws the confounder of its call.
+/// The next dial, as `next_dial` gives it, of a channel that seals: a turn on the open channel draws the confounder of
+/// its call.
 ///
 /// `Spent` exactly where a turn can start, the channel needs a challenge and none is left; `Memory` where no memory was
 /// found.

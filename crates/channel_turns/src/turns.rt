@@ -101,7 +101,7 @@ pub(crate) fn send_request(
     }
 }
 
-/// These frames are sent on the link.
+/// Sends the frames on the link.
 fn send_frames(alloc: Global, frames: &ShortFrames, at: TurnWork) -> Result<TurnWork, NoMemory>
     ensures { IfOk result
         (λ sent. sent ≡ tell (action.Send at.link (joined_frames frames.now)) at) }

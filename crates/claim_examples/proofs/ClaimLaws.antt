@@ -354,7 +354,7 @@ of_all = record {
   };
 }
 
--- ---- all of them
+-- ---- all claims
 
 -- all that is proved of runs
 at_first : (plan : Plan) → IsClaimed plan []

@@ -91,7 +91,7 @@ not_enabled : (now : ℕ) → MayLogOn disabled_table (info_asked message) now �
 unfolding place_in same_name names.upper_of units_of
 not_enabled now may = absurd (let never : true ≡ false = may.there.account.enabled in cc)
 
--- her call is to be granted, however it was judged
+-- ann's call is to be granted, however it was judged
 met_small : (how : Judged) → IsToBeGranted (record (judged_as how next_call) { table = small_table }) next_logon
 met_small how = record { next = next_at []; level = inr refl; may = may_small 0; verifies = granted_small.verifies }
 

@@ -57,7 +57,7 @@ runs_here type state running at runs =
 abbrev from : Source → ℕ → ChannelAccepted
 from source type = record (opened_as type) { source = source }
 
--- which is FILE1's channel alone
+-- only FILE1's channel is kept, so what is kept for a computer is of the opening of that one
 last_by : (hit : Bool) (source : Source) (type : ℕ) (computer : List ℕ) (has : SecureChannelState) → same_name computer (codes "FILE1") ≡ hit →
     (if hit then Some (typed_channel (Some type)) else None) ≡ Some has → IsLastOpened 0 computer has (from source type ∷ [])
 last_by true source type computer has is keeps = record {
@@ -226,12 +226,12 @@ mark_here mark (suc (suc n)) sent channel number timestamp there is = absurd (go
 second_number : (n : ℕ) → InUnit 1 ≡ InUnit n → 1 ≡ n
 second_number n came = cc
 
--- what the claim says of the call in unit 1
+-- what `CallsFollowOpenings` says of the call in unit 1
 opened_for : (opened called : LinkKind) (channel : ChannelIdentity) (accepted : List ChannelAccepted) → CallsFollowOpenings (called_over opened called (Calling channel 3 0) accepted) →
     OneOf (IsOpenedLikewise (called_over opened called (Calling channel 3 0) accepted) (unit_over called) channel) accepted
 opened_for opened called channel accepted claim = claim refl 1 (unit_over called) (sent_at 1 (Calling channel 3 0)) channel 3 0 refl refl refl
 
--- what it says of the call that passed
+-- what `PassesAreCalls` says of the call that passed in unit 1
 made_as : (mark : Mark) → PassesAreCalls (called_over kind.Between kind.Between mark []) → IsMadeAsCall (called_over kind.Between kind.Between mark []) 1
 made_as mark claim = (claim refl).0 1 small_name refl refl
 

@@ -55,7 +55,7 @@ use Rattle.world_moves.specs.Forms.{HasMoveForm, IsByte}
 use Rattle.world_moves.specs.World.{IsMove}
 use Rattle.domain_world.specs.Accepting.Answered.{IsItsWay, MarksHaveTheirWay, PassesAreUnclashed}
 use Rattle.domain_world.specs.Accepting.Carried.{IsPlain, IsWholeAsMarked, IsWholeUnit, MarkedUnitsAreWhole}
-use Rattle.domain_world.proofs.Accepting.CarriedLaws.{one_unit}
+use Rattle.domain_world.proofs.Acceptance.CarriedLaws.{one_unit}
 use Rattle.domain_world.proofs.Moves.PlainFormLaws.{plain_is}
 use Rattle.domain_world.specs.Claims.MarkedUnits.{CallsAreMarked, IsMarkedAsCall, IsMarkedAsReply, RepliesAreMarked}
 use Rattle.domain_world.specs.Claims.{TellsOfForwards, IsAccepted, IsClear, IsGrantedBy, IsItsControllersAnswer, IsPlainlyAccepted, passed_on, judged_timestamp, counts_by}
@@ -709,7 +709,7 @@ abbrev first_count : List Account → ℕ
 first_count [] = 0
 first_count (account ∷ accounts) = account.bad_count
 
--- those accounts are others
+-- the accounts of `locking_table` aren't those of `small_table`
 others_differ : locking_table ≡ small_table → ⊥
 others_differ is = absurd (let never : 5 ≡ 0 = ap (λ (t : AccountTable). first_count t.accounts) is in omega (arith, never))
 

@@ -137,7 +137,7 @@ begins_alike = record {
   only = none_else;
 }
 
--- the same with another account of that hash
+-- a plan by which a member begins alike, with any account whose hash is the old secret
 begins_by : (account : Account) → account.hash ≡ old_secret → account_in (able_table (account ∷ [])).accounts (machine_name (codes "FILE1")) ≡ Some account → BeginsAlike (plan_by account) 0
 begins_by account hash found = record {
   own = able_member old_secret;
@@ -305,7 +305,7 @@ kept_so member kept hash calls own claim =
     let its : IsNeverApart (state_of member kept hash calls) 0 begins_alike = claim own 0 begins_alike in
     subst (λ (h : List ℕ). IsAmong h kept) (hash_is member kept hash calls its) (its.kept kept refl)
 
--- another one than the current and the next one
+-- a hash that is neither the current nor the next secret isn't among them
 pub not_among : (hash current : List ℕ) (next : Option Next) → (hash ≡ current → ⊥) → (next_of (record { current = current; next = next }) ≡ Some hash → ⊥) →
     IsAmong hash (record { current = current; next = next }) → ⊥
 not_among hash current next apart else among = elim among.among [ inl is ↦ apart is | inr is ↦ else is ]

@@ -61,7 +61,7 @@ the_reply : (bytes : List ℕ) (channel : ChannelIdentity) (call request : ℕ) 
 unfolding plain_form
 the_reply bytes channel call request j claim = elim (claim 0 _ (sent_at 6 (ReplyTo channel call request)) refl refl) [ inl here ↦ here | inr never ↦ absurd never ]
 
--- so it is of what is claimed where controllers may hand logons on
+-- `RepliesAreOfTheirCalls` holds of a run with one unit where it holds of that unit's bytes and mark
 any_of_one : (bytes : List ℕ) (mark : Mark) (j : Judging) → IsReplyOfAny small_plan (j ∷ []) 0 bytes mark → RepliesAreOfTheirCalls (reply_run bytes mark j)
 unfolding plain_form
 any_of_one bytes mark j is zero unit sent there marked =
@@ -88,7 +88,7 @@ the_any : (bytes : List ℕ) (channel : ChannelIdentity) (call request : ℕ) (j
 unfolding plain_form
 the_any bytes channel call request j claim = any_reply bytes channel call request j (claim 0 _ (sent_at 6 (ReplyTo channel call request)) refl refl)
 
--- her call, that was handed on, is answered under its number, in its unit and on its channel
+-- what answers ann's call that was handed on has the number, the unit and the channel of that call
 handed_so : (bytes : List ℕ) (channel : ChannelIdentity) (call request : ℕ) → EitherReply bytes channel call request handed_call → IsHandedOnAs channel call request handed_call
 handed_so bytes channel call request (inl is) = absurd (let how = is.carries.how in cc)
 handed_so bytes channel call request (inr is) = is

@@ -34,7 +34,7 @@ module _ (first second : Mark) (apart : (number : ℕ) (c d : ChannelIdentity) �
   two_apart (suc zero) (suc (suc m)) number c d one other there also asks asks_too same = absurd (got_nothing m other also)
   two_apart (suc (suc n)) m number c d one other there also asks asks_too same = absurd (got_nothing n one there)
 
--- where they are
+-- two requests with one number refute the claim
 not_one : (first second : Mark) (number : ℕ) → IsRequest small_name number first → IsRequest small_name number second → RequestsHaveNumbers (made_for first second) → ⊥
 not_one first second number asks asks_too claim =
     let same : 0 ≡ 1 = claim 0 1 number small_name small_name (sent_at 3 first) (sent_at 4 second) refl refl asks asks_too refl in

@@ -266,13 +266,13 @@ the_running turn o member m running there runs =
 abbrev idle : MemberRunning
 idle = running_on None (small_channel small_seed)
 
--- of the controller of such a run
+-- what `OneTurnIsOut` says of the one controller of a run
 asks : (turns : List (Option Pending)) (how : Dialling) (ends : List EndId) → OneTurnIsOut (run_trusting turns how ends) → HasOneTrustTurnOut (run_trusting turns how ends).world.state 0 (asking_controller turns how)
 asks turns how ends claim =
     claim.controllers 0 (asking_controller turns how)
     (record { computers = record { pending = []; channels = (codes "FILE1", small_channel small_seed) ∷ []; sessions = [] }; links = [] }) refl refl
 
--- one controller
+-- where there is one controller, it has number 0
 the_one : (first : ControllerState) (controller : ℕ) (c : ControllerState) → slice_get (first ∷ []) controller ≡ Some c → (controller ≡ 0) × (first ≡ c)
 the_one first zero c at = (refl, cc)
 the_one first (suc controller) c at = absurd cc

@@ -43,7 +43,7 @@ use Rattle.claim_examples.specs.SessionExamples.{OfHashGrants, OfSessions, OfSta
 use Rattle.claim_examples.proofs.ClaimLaws.{no_channel}
 use Rattle.claim_examples.proofs.GrantExampleLaws.{may_small}
 
--- ---- her hash
+-- ---- ann's hash
 
 -- the hash that is stored for ann is hers
 is_stored : (nt : List ℕ) → nt ≡ small_hash → HashIsStored small_table (info_asked message).user nt
@@ -60,7 +60,7 @@ shown_is hash = applied-applied (key_of_channel (small_channel [])) 0 hash
 
 -- ---- which are granted
 
--- its authenticator is the next one
+-- the authenticator of ann's call is the next one
 abbrev next_here : IsNextOn (Some (small_channel [])) (Some (authenticator_of (key_of_channel (small_channel [])) [] 0))
 next_here = record {
   channel = small_channel [];
@@ -70,7 +70,7 @@ next_here = record {
   passes = refl;
 }
 
--- with so many sessions it is to be granted, however it was judged
+-- with at most 9,999 sessions ann's call is to be granted, however it was judged
 met_with : (how : Judged) (sessions : List Session) → length sessions ≤ 9999 → IsToBeLetOn (record (judged_as how (hash_call small_hash)) { sessions = sessions }) (hash_logon small_hash)
 met_with how sessions few = record {
   next = next_here;
@@ -149,7 +149,7 @@ follow kept calls renewed judged is few = record {
 none_some : (sessions : List Session) → [] ≡ sessions → sessions ≡ ann_session → ⊥
 none_some sessions none is = absurd (let never : [] ≡ ann_session = none ∙ is in cc)
 
--- her logoff takes her session out
+-- ann's logoff takes her session out
 ann_leaves : sessions_behind (logoff_call ann_session) ≡ []
 unfolding same_name names.upper_of units_of
 ann_leaves = refl
@@ -222,7 +222,7 @@ roam_for kind how hands = record {
   routed = roam_routed;
 }
 
--- it is told so
+-- a logon for ROAM is told rightly as handed on, and as passed with STATUS_NO_LOGON_SERVERS
 roam_told : (kind : ℕ) (how : Judged) → hands_on (Some kind) ≡ true → (how ≡ judged.Forwarded) ⊎ (how ≡ judged.Passed no_logon_servers) → IsToldRightly handing_plan (roam_call kind how)
 roam_told kind how hands either channel stands passed =
     let same : typed_channel kind ≡ channel = some_is (typed_channel kind) channel stands in

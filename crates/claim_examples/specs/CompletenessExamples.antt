@@ -88,8 +88,8 @@ two_plan current next tried = record ann_plan { members = two_member current nex
 abbrev pub ann_starts : List Move
 ann_starts = move.Start 0 ∷ []
 
--- she is in, with so many bytes of her echo, and this was told
-abbrev pub ann_run : ℕ → List OutcomeTold → Past
+-- ann is in, with `echoed` bytes of her echo, and `told` was told
+abbrev pub ann_run : (echoed : ℕ) (told : List OutcomeTold) → Past
 ann_run echoed told =
     let w : World = first_world ann_plan in
     let ended : ClientOutcome = client_outcome.In (name_of small_table small_account) (1 ∷ []) echoed in
@@ -115,11 +115,11 @@ pub record OfSuccess : Type 0 where
   pub fails_disabled : CanSucceed (plan_by (record small_account { disabled = true }) machine_account) ann_starts 0 → ⊥
   pub fails_computer : CanSucceed (plan_by small_account (record machine_account { disabled = true })) ann_starts 0 → ⊥
   pub fails_kind : CanSucceed (plan_by small_account (record machine_account { kind = User })) ann_starts 0 → ⊥
-  -- she can't where her bad passwords have locked her out, or with her response of 24 bytes where none of them is taken
+  -- ann can't where her bad passwords have locked her out, or with her response of 24 bytes where none of them is taken
   pub fails_locked_out : CanSucceed (policy_plan 2 false 2) ann_starts 0 → ⊥
   pub fails_short : CanSucceed (policy_plan 0 true 0) ann_starts 0 → ⊥
   pub fails_alike : CanSucceed alike_plan ann_starts 0 → ⊥
-  -- she can where FILE1 keeps two secrets, of which its account has the one that FILE1 tries
+  -- ann can where FILE1 keeps two secrets, of which its account has the one that FILE1 tries
   pub can_current : CanSucceed (two_plan machine_secret (replicate 16 4) false) ann_starts 0
   pub can_next : CanSucceed (two_plan (replicate 16 4) machine_secret true) ann_starts 0
   pub fails_untried : CanSucceed (two_plan (replicate 16 4) machine_secret false) ann_starts 0 → ⊥

@@ -73,7 +73,7 @@ pub record OfGrants : Type 0 where
   -- ann's grant with another hash of FILE1's account, as a NetrServerPasswordSet may have set it
   pub set : GrantsWhoMayLogOn (judged_from (machine_table small_hash) (record next_call { table = machine_table (replicate 16 8) }))
   pub at_two : GrantsWhoMayLogOn (judged_by small_table (at_level 2))
-  -- not where it was refused, or barred, though all is so
+  -- not where ann's call was refused, or barred, though she may log on
   pub fails_refused : GrantsWhoMayLogOn (judged_by small_table (judged_as (judged.Passed wrong_password) next_call)) → ⊥
   pub fails_barred : GrantsWhoMayLogOn (judged_by small_table (judged_as judged.Barred next_call)) → ⊥
   -- the claim isn't met where ann was granted with her account disabled, on a response to another challenge or of 25

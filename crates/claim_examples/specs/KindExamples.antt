@@ -30,8 +30,8 @@ typed_channel type = record (small_channel []) { kind = type }
 abbrev pub typed_computers : Option ℕ → Computers
 typed_computers type = record { pending = []; channels = (codes "FILE1", typed_channel type) ∷ []; sessions = [] }
 
--- its controller keeps it so, and these units are in the bag
-abbrev pub world_keeping : Option ℕ → List BagUnit → World
+-- a world whose controller keeps FILE1's channel with that type, or with none, and whose bag holds those units
+abbrev pub world_keeping : (type : Option ℕ) (bag : List BagUnit) → World
 world_keeping type bag =
     let w : World = small_world in
     record w {
@@ -43,29 +43,30 @@ world_keeping type bag =
       };
     }
 
--- its opening named that type
-abbrev pub opened_as : ℕ → ChannelAccepted
+-- the opening of FILE1's channel, which named that type
+abbrev pub opened_as : (type : ℕ) → ChannelAccepted
 opened_as type = record small_accepted { kind = type }
 
--- a later opening of it, with another challenge of the server
-abbrev pub later_as : ℕ → ChannelAccepted
+-- a later opening of FILE1's channel, with another challenge of the server
+abbrev pub later_as : (type : ℕ) → ChannelAccepted
 later_as type = record (opened_as type) { channel = record small_name { server = replicate 8 9 } }
 
--- these were accepted, the newest first, and these calls were judged
-abbrev pub typed_run : Option ℕ → List ChannelAccepted → List Judging → Past
+-- a run after which FILE1's channel is kept with that type, or with none; the openings stand the newest first
+abbrev pub typed_run : (type : Option ℕ) (accepted : List ChannelAccepted) (judgings : List Judging) → Past
 typed_run type accepted judgings =
     run_in (world_keeping type []) (record blank { accepted = accepted; judged = judgings })
 
--- a call on it, checked on that channel
-abbrev pub call_on : Option ℕ → Judging
+-- a call on FILE1's channel, which had that type, or none, when the call was checked on it
+abbrev pub call_on : (type : Option ℕ) → Judging
 call_on type = record (on_channel 0) { checks = Some (typed_channel type) }
 
 abbrev pub handed_on : Judging → Judging
 handed_on j = judged_as judged.Forwarded j
 
--- The channel has the type that its opening named: not where it has another one or none, nor where a later opening was
--- accepted, nor where a call was checked on one of another type. A call on it is handed on where the opening named a
--- workstation's or a backup controller's type; not where it named a trusted domain's, on which a call is judged there.
+-- FILE1's channel has the type that its opening named: not where it has another one or none, nor where a later opening
+-- was accepted, nor where a call was checked on one of another type. A call on it is handed on where the opening named
+-- a workstation's or a backup controller's type; not where it named a trusted domain's, on which a call is judged
+-- there.
 pub record OfKinds : Type 0 where
   pub meets : KindsFollowOpenings (typed_run (Some workstation_channel) (opened_as workstation_channel ∷ []) (handed_on (call_on (Some workstation_channel)) ∷ []))
   pub meets_backup : KindsFollowOpenings (typed_run (Some backup_controller_channel) (opened_as backup_controller_channel ∷ []) (handed_on (call_on (Some backup_controller_channel)) ∷ []))
@@ -78,16 +79,16 @@ pub record OfKinds : Type 0 where
 
 -- ---- who asked
 
--- a unit on a link of that kind, to the end that accepted it
-abbrev pub unit_over : LinkKind → BagUnit
+-- a unit on a link of that kind, to the end that accepted the link
+abbrev pub unit_over : (over : LinkKind) → BagUnit
 unit_over over = record { bytes = []; link = 0; kind = over; back = false; is_settled = false }
 
--- one that asks, by the type that it names
-abbrev pub asks_as : ℕ → Requester
+-- a requester, by the type of channel that it names
+abbrev pub asks_as : (type : ℕ) → Requester
 asks_as type = fresh_requester (record (caller_of small_member) { kind = type })
 
--- a member at work that names the one, and a controller that names the other where it asks
-abbrev pub member_asking : ℕ → MemberState
+-- a member at work, by the type of channel that it names
+abbrev pub member_asking : (type : ℕ) → MemberState
 member_asking type = record {
   running = Some (record {
     logons = record { plan = small_member; channel = asks_as type; asked = [] };
@@ -97,11 +98,13 @@ member_asking type = record {
   });
 }
 
-abbrev pub controller_asking : ℕ → ControllerState
+-- a controller that asks one other, by the type of channel that it names there
+abbrev pub controller_asking : (type : ℕ) → ControllerState
 controller_asking type =
     record (keeping_controller []) { trusting = record no_trusting { queues = record { requesters = asks_as type ∷ []; forwarded = [] } } }
 
-abbrev pub asking_as : ℕ → ℕ → Past
+-- a run with a member and a controller that ask, by the type of channel that each names
+abbrev pub asking_as : (member controller : ℕ) → Past
 asking_as member controller =
     let w : World = small_world in
     run_in
@@ -119,17 +122,17 @@ pub record OfAskers : Type 0 where
   pub fails_member : AskersNameTheirKind (asking_as trusted_domain_channel trusted_domain_channel) → ⊥
   pub fails_controller : AskersNameTheirKind (asking_as workstation_channel workstation_channel) → ⊥
 
--- the opening came in the first unit, which went over a link of that kind, and named that type
-abbrev pub asked_as : LinkKind → ℕ → Past
+-- a run in which FILE1's channel was opened in unit 0, which went over a link of that kind, with that type
+abbrev pub asked_as : (over : LinkKind) (type : ℕ) → Past
 asked_as over type =
     run_in (world_keeping (Some type) (unit_over over ∷ [])) (record blank { accepted = record (opened_as type) { source = InUnit 0 } ∷ [] })
 
--- the same, with a clash
+-- a run with a clash of credentials written down besides
 abbrev pub clashed : Past → Past
 clashed past = record past { book = record past.book { clash = true } }
 
--- it came from outside
-abbrev pub asked_outside : ℕ → Past
+-- a run in which FILE1's channel was opened from outside, with that type
+abbrev pub asked_outside : (type : ℕ) → Past
 asked_outside type =
     run_in (world_keeping (Some type) (unit_over kind.Between ∷ [])) (record blank { accepted = record (opened_as type) { source = Outside } ∷ [] })
 
@@ -149,12 +152,12 @@ pub record OfKindsAsked : Type 0 where
 
 -- ---- how far a call goes
 
--- the call was judged in unit 1, which went over a link of that kind
-abbrev pub hop_over : LinkKind → Judging → Past
+-- a run in which the call came in unit 1, which went over a link of that kind
+abbrev pub hop_over : (over : LinkKind) (j : Judging) → Past
 hop_over over j =
     run_in (world_keeping None (unit_over over ∷ unit_over over ∷ [])) (record blank { judged = record j { source = InUnit 1 } ∷ [] })
 
--- A member's call may be handed on. One of another controller isn't: it is judged there. Nothing is said where a
+-- A member's call may be handed on. A call of another controller isn't: it is judged there. Nothing is said where a
 -- credential clashed.
 pub record OfHops : Type 0 where
   pub meets_member : TakesOneHop (hop_over kind.ToController (handed_on (on_channel 0)))
@@ -162,9 +165,9 @@ pub record OfHops : Type 0 where
   pub fails : TakesOneHop (hop_over kind.Between (handed_on (on_channel 0))) → ⊥
   pub clash : TakesOneHop (clashed (hop_over kind.Between (handed_on (on_channel 0))))
 
--- unit 0 went over a link of one kind, in which that opening came, and unit 1 over one of another, which has that mark,
--- in which a call passed
-abbrev pub called_over : LinkKind → LinkKind → Mark → List ChannelAccepted → Past
+-- a run in which unit 0 went over a link of the kind `opened`, and unit 1, in which a call passed, over one of the kind
+-- `called`, and has the mark
+abbrev pub called_over : (opened called : LinkKind) (mark : Mark) (accepted : List ChannelAccepted) → Past
 called_over opened called mark accepted =
     run_in (world_keeping None (unit_over opened ∷ unit_over called ∷ []))
     (record blank {

@@ -289,8 +289,8 @@ abbrev pub called_as : Mark → Mark → Past
 called_as call reply =
     small_run (record one_logon { sent = replicate 7 (sent_at 0 Plain) ++ sent_at 5 call ∷ sent_at 6 reply ∷ []; judged = on_channel 0 ∷ [] })
 
--- the call of the message is marked as none, and its reply as one, which was sent after so many moves
-abbrev pub replied_at : ℕ → Past
+-- the call of the message is marked as none, and its reply as one, which was sent after `moves` moves
+abbrev pub replied_at : (moves : ℕ) → Past
 replied_at moves =
     small_run (record one_logon { sent = replicate 7 (sent_at 0 Plain) ++ sent_at 5 Plain ∷ sent_at moves (ReplyTo small_name 3 7) ∷ []; judged = on_channel 0 ∷ [] })
 
@@ -429,8 +429,8 @@ pub record OfMaking : Type 0 where
   pub fails_controller : MessagesAreOfTheirClients (making (record (made_keeping []) { link = 0 })) → ⊥
   pub fails_unmade : MessagesAreOfTheirClients (making (record (made_keeping []) { link = 6 })) → ⊥
 
--- a run with one client, which stands so
-abbrev pub with_client : ClientState → List MessageMade → Past
+-- a run with one client, whose state is `c`
+abbrev pub with_client : (c : ClientState) → List MessageMade → Past
 with_client c made =
     run_in
     (record small_world { state = record small_world.state { ends = record small_world.state.ends { clients = c ∷ [] } } })
@@ -471,18 +471,20 @@ pub record OfSeeing : Type 0 where
   pub sees : seen_in small_world.state (OfMember 0) ≡ Some fresh_view
   pub none : seen_in small_world.state (OfMember 1) ≡ None
 
--- what PDC told, and what another controller did, the newest first
+-- what PDC told, the newest first
 abbrev pub telling : List Judged → List JudgementTold
 telling hows = map (λ (how : Judged). record { at = 6; controller = 0; how = how }) hows
 
+-- what another controller told, the newest first
 abbrev pub told_elsewhere : List Judged → List JudgementTold
 told_elsewhere hows = map (λ (how : Judged). record { at = 6; controller = 1; how = how }) hows
 
 abbrev pub told_so : List JudgementTold → Past
 told_so told = small_run (record blank { judgements = told })
 
--- A controller tells besides how calls came out that it handed on: not of one that it didn't hand on, nor twice of one,
--- nor of another controller's, nor while it waits. That one was handed on and forgotten may be.
+-- At a controller as many calls were handed on at least as came out or wait yet: not where one came out and none was
+-- handed on there, whatever another controller handed on; nor where two came out, or one did and one waits, and one was
+-- handed on; nor where one waits and none was handed on. A call may be handed on and forgotten.
 pub record OfTelling : Type 0 where
   pub calls : TellsOfForwards (told_so (telling (judged.Barred ∷ [])))
   pub meets : TellsOfForwards (told_so (telling (judged.Answered 0 ∷ judged.Passed 0 ∷ judged.Forwarded ∷ [])))
@@ -546,7 +548,7 @@ each_move =
 pub record OfSchedules : Type 0 where
   pub meets : IsSchedule lost_plan each_move
 
--- ---- all of them
+-- ---- all near misses
 
 pub record NearMissesTellApart : Type 0 where
   pub clear : OfClearRuns

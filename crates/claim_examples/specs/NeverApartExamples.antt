@@ -106,9 +106,9 @@ member_holding secrets = record { running = Some (running_with secrets) }
 abbrev pub stopped_member : MemberState
 stopped_member = record { running = None }
 
--- The member stands so, what it kept has these secrets, FILE1's account has this hash, and these calls were judged. A
--- unit of the bag waits, and a dial of the member.
-abbrev pub state_of : MemberState → SecretsState → List ℕ → List Judging → Past
+-- The member is `member`, what it kept has the secrets `kept`, FILE1's account has the hash `hash`, and `calls` were
+-- judged. A unit of the bag waits, and a dial of the member.
+abbrev pub state_of : (member : MemberState) (kept : SecretsState) (hash : List ℕ) (calls : List Judging) → Past
 state_of member kept hash calls =
     let w : World = first_world change_plan in
     record {

@@ -59,7 +59,7 @@ pub record OfOpenings : Type 0 where
   pub fails_used : OpeningsAreInOrder (waits_after [] (codes "FILE1" ∷ []) (small_accepted ∷ [])) → ⊥
   pub fails_two : OpeningsAreInOrder (waits_after [] (codes "FILE1" ∷ codes "FILE2" ∷ []) []) → ⊥
 
--- ---- its reply
+-- ---- the reply to an opening
 
 -- an opening whose call came in unit 0 after four moves, and whose reply unit 1 carries
 abbrev pub answered_opening : ChannelAccepted

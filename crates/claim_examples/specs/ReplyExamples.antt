@@ -43,7 +43,7 @@ replied_call = record next_call { reply = Some 0 }
 abbrev pub reply_mark : Mark
 reply_mark = ReplyTo small_name 3 7
 
--- ann's call was handed on, and has no reply then
+-- ann's call, where it was handed on: it has no reply of the step that judged it
 abbrev pub handed_call : Judging
 handed_call = record (judged_as judged.Forwarded next_call) { reply = None }
 
@@ -60,7 +60,8 @@ pub record OfReplies : Type 0 where
   pub fails_channel :
       RepliesCarryTheirJudgement (reply_run small_reply (ReplyTo (channel_of 1 (codes "FILE1") (small_channel [])) 3 7) replied_call) → ⊥
   pub fails_reply : RepliesCarryTheirJudgement (reply_run small_reply reply_mark next_call) → ⊥
-  -- so it is where controllers may hand logons on; a call that was handed on is answered by any bytes, on its channel
+  -- where controllers may hand logons on, the reply to ann's call is claimed as well; if the call was handed on, any
+  -- bytes answer it, under its number, in its unit and on its channel
   pub meets_too : RepliesAreOfTheirCalls (reply_run small_reply reply_mark replied_call)
   pub handed_on : RepliesAreOfTheirCalls (reply_run [] reply_mark handed_call)
   pub barred_too : RepliesAreOfTheirCalls (reply_run small_reply reply_mark (judged_as judged.Barred replied_call)) → ⊥

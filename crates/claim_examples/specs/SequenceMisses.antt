@@ -143,7 +143,7 @@ pub record OfSequenceMisses : Type 0 where
 
 -- ---- one turn at a time
 
--- a run after which these ends' dials wait
+-- a run after which dials of those ends wait, where there is no other end than the controller with those turns
 abbrev pub run_dials : List EndId → Past
 run_dials ends =
     let run : Past = run_by blank None (small_channel small_seed) (codes "FILE1") (small_channel small_seed) in
@@ -153,9 +153,9 @@ run_dials ends =
       };
     }
 
--- a controller that asks as many trusts as there are entries, of each of which that turn is out, if one is; its own
--- turn is the second trust's, and so far
-abbrev pub asking_controller : List (Option Pending) → Dialling → ControllerState
+-- a controller with a trust for each of the turns, which is out there if there is one; the dial or link of the
+-- controller's turn is the second trust's, and is so far
+abbrev pub asking_controller : (turns : List (Option Pending)) (how : Dialling) → ControllerState
 asking_controller turns how = record (controller_on (codes "FILE1") (small_channel small_seed)) {
   trusting = record no_trusting {
     queues = record { requesters = map (λ (turn : Option Pending). (open_running turn []).logons.channel) turns; forwarded = [] };
@@ -164,12 +164,12 @@ asking_controller turns how = record (controller_on (codes "FILE1") (small_chann
   };
 }
 
--- its dial waits, with no bind
+-- the dial of a turn waits, with no bind
 abbrev pub dial_waits : Dialling
 dial_waits = dialling.Waits tt []
 
 -- a run after which these ends' dials wait, where there is no other end than that controller
-abbrev pub run_trusting : List (Option Pending) → Dialling → List EndId → Past
+abbrev pub run_trusting : (turns : List (Option Pending)) (how : Dialling) (ends : List EndId) → Past
 run_trusting turns how ends =
     let w : World = world_by [] [] (asking_controller turns how ∷ []) in
     run_in
@@ -194,7 +194,7 @@ pub record OfOneTurn : Type 0 where
 
 -- ---- the calls of turns
 
--- one turn, whose call went out in unit 0; and that call was judged so
+-- one turn, whose call went out in unit 0 and was judged as `judged` says
 abbrev pub called_once : List Judging → Book
 called_once judged = record one_turn { sent = sent_at 0 (Calling small_name 3 0) ∷ []; judged = judged }
 
@@ -226,8 +226,9 @@ pub record OfCalls : Type 0 where
 abbrev pub empty_unit : BagUnit
 empty_unit = record { bytes = []; link = 0; kind = kind.ToController; back = true; is_settled = true }
 
--- unit 0 was made for this, and unit 1 as the reply to a call of that number in unit 0; the call was judged so
-abbrev pub replied_for : Mark → ℕ → List Judging → Past
+-- unit 0 was made for `mark`, and unit 1 as the reply to a call of that number in unit 0; the call was judged as
+-- `judged` says
+abbrev pub replied_for : (mark : Mark) (number : ℕ) (judged : List Judging) → Past
 replied_for mark number judged =
     let run : Past = small_run (record blank { sent = sent_at 0 mark ∷ sent_at 0 (ReplyTo small_name number 0) ∷ []; judged = judged }) in
     record run { world = record run.world { state = record run.world.state { bag = empty_unit ∷ empty_unit ∷ [] } } }
@@ -249,7 +250,7 @@ pub record OfReplyCalls : Type 0 where
   pub fails_plain : RepliesAnswerCalls (replied_for Plain 3 (passed_then ∷ [])) → ⊥
   pub fails_channel : RepliesAnswerCalls (replied_for (Calling (record small_name { controller = 1 }) 3 0) 3 (passed_then ∷ [])) → ⊥
 
--- ---- all of them
+-- ---- all of the sequences
 
 pub record SequencesTellApart : Type 0 where
   pub shared : OfSequenceMisses

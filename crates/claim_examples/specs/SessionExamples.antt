@@ -105,8 +105,8 @@ ann_call = hash_call small_hash
 abbrev pub barred_by : List Session → Judging
 barred_by sessions = record (judged_as judged.Barred ann_call) { at = 8; sessions = sessions }
 
--- PDC was made anew by the last of so many moves
-abbrev pub renewed_by : ℕ → List ControllerRenewed
+-- PDC was made anew by the last of `moves` moves
+abbrev pub renewed_by : (moves : ℕ) → List ControllerRenewed
 renewed_by moves = record { moves = moves; controller = 0 } ∷ []
 
 -- ann's logoff, judged by these sessions
@@ -161,11 +161,11 @@ abbrev pub handing_run : List Judging → Past
 handing_run calls = record { plan = handing_plan; world = small_world; book = record blank { judged = calls } }
 
 -- FILE1's channel, of that type
-abbrev pub typed_channel : ℕ → SecureChannelState
+abbrev pub typed_channel : (kind : ℕ) → SecureChannelState
 typed_channel kind = record (small_channel []) { kind = Some kind }
 
 -- a user of ROAM logs on at FILE1, on a channel of that type
-abbrev pub roam_call : ℕ → Judged → Judging
+abbrev pub roam_call : (kind : ℕ) (how : Judged) → Judging
 roam_call kind how = record next_call {
   asked = Network (record next_logon { info = record (info_asked message) { domain = codes "ROAM" } });
   checks = Some (typed_channel kind);
@@ -174,10 +174,10 @@ roam_call kind how = record next_call {
 }
 
 -- Statuses: the logoff of a session that stands was told with 0, and of one that doesn't with
--- STATUS_NO_SUCH_LOGON_SESSION; not the other way. So was the change of a secret with 0 where the computer has an
--- account, and with STATUS_NO_TRUST_SAM_ACCOUNT where it has none. Of a call that was barred nothing is asked. A logon
--- for a trusted domain was told as handed on, or as passed with STATUS_NO_LOGON_SERVERS, and not as granted here; not
--- on the channel of a trust, nor where controllers don't hand on.
+-- STATUS_NO_SUCH_LOGON_SESSION; not the other way. The change of a secret was told with 0 where the computer has an
+-- account, and with STATUS_NO_TRUST_SAM_ACCOUNT where it has none; not the other way. Of a call that was barred nothing
+-- is asked. A logon for a trusted domain was told as handed on, or as passed with STATUS_NO_LOGON_SERVERS, and not as
+-- granted here; not on the channel of a trust, nor where controllers don't hand on.
 pub record OfStatuses : Type 0 where
   pub meets : StatusesAreTold (judged_all (logoff_call ann_session ∷ []))
   pub none : StatusesAreTold (judged_all (judged_as (judged.Passed no_such_logon_session) (logoff_call []) ∷ []))

@@ -30,8 +30,8 @@ abbrev pub request_head : List ℕ
 request_head =
     5 ∷ 0 ∷ 0 ∷ 3 ∷ 16 ∷ 0 ∷ 0 ∷ 0 ∷ 108 ∷ 0 ∷ 0 ∷ 0 ∷ 6 ∷ 0 ∷ 0 ∷ 0 ∷ 84 ∷ 0 ∷ 0 ∷ 0 ∷ 0 ∷ 0 ∷ 6 ∷ 0 ∷ []
 
--- a string of so many characters, of which the last one ends it
-abbrev pub string_of : ℕ → List ℕ → List ℕ
+-- a string of `count` characters, of which the last one ends it
+abbrev pub string_of : (count : ℕ) → List ℕ → List ℕ
 string_of count text = count ∷ 0 ∷ 0 ∷ 0 ∷ 0 ∷ 0 ∷ 0 ∷ 0 ∷ count ∷ 0 ∷ 0 ∷ 0 ∷ flat_map (λ (one : ℕ). one ∷ 0 ∷ []) (text ++ 0 ∷ [])
 
 -- A NetrServerPasswordSet (MS-NRPC 3.5.4.4.6): no primary name, the account, a workstation's channel, the computer, the

@@ -34,7 +34,7 @@ use Rattle.claim_examples.specs.CompletenessExamples.{able_client, able_member, 
 abbrev pub told_as : Outcome → List OutcomeTold
 told_as what = record (told_of_link 0) { outcome = what } ∷ []
 
--- she has this outcome, and it was told that she is in
+-- ann has the outcome `ended`, and it was told that she is in
 abbrev pub run_ended : ClientOutcome → Past
 run_ended ended =
     let one : Past = ann_run 16 (told_of_link 0 ∷ []) in
@@ -74,8 +74,8 @@ pub record OfSucceeding : Type 0 where
 
 -- ---- who can
 
--- ann asks for so many bytes of Echo, at that level, by that kind of response
-abbrev pub asking_plan : ℕ → AuthKind → ℕ → Plan
+-- ann asks for `echo` bytes of Echo, at that level, by that kind of response
+abbrev pub asking_plan : (level : ℕ) (auth : AuthKind) (echo : ℕ) → Plan
 asking_plan level auth echo = record ann_plan { clients = record (able_client small_hash) { level = level; auth = auth; echo = echo } ∷ [] }
 
 -- a plan in which another controller has a member of the same name
@@ -98,8 +98,8 @@ strict_table = record (able_table ann_accounts) { policy = record { lockout = 0;
 abbrev pub strict_plan : Plan
 strict_plan = record (asking_plan 2 V2 16) { tables = strict_table ∷ [] }
 
--- She can by each kind of response, at each level, with each Echo; and though a member of another controller has the
--- name of hers, and another client no member. By NTLMv2 she can where responses of 24 bytes are refused.
+-- Ann can succeed by each kind of response, at each level, with each Echo; and though a member of another controller
+-- has the name of hers, and another client no member. By NTLMv2 she can where responses of 24 bytes are refused.
 pub record OfWhoCan : Type 0 where
   pub each : (level : ℕ) (auth : AuthKind) (echo : ℕ) → CanSucceed (asking_plan level auth echo) ann_starts 0
   pub beside : CanSucceed beside_plan ann_starts 0
@@ -183,7 +183,7 @@ pub record OfEachClient : Type 0 where
   pub fails_second : (run : Past) (moves : List Move) (first second : ℕ) → ComesOneAtATime run moves → (can : CanSucceed run.plan moves second) →
       OwnKeysArrive run moves second can → started_in moves (length run.plan.clients) ≡ first ∷ second ∷ [] → outcome_of run.world second ≡ None → EachSucceeds run moves → ⊥
 
--- ---- all of them
+-- ---- all of success
 
 pub record SuccessTellsApart : Type 0 where
   pub succeeding : OfSucceeding

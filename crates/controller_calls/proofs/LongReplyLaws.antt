@@ -35,7 +35,7 @@ use Rattle.controller_calls.specs.Limits.{extra_most, granted_most, groups_most,
 
 -- ---- the stub
 
--- at most so many bytes more
+-- at most `count` bytes more are written
 record Grows (count : ℕ) (old new : Written) : Type 0 where
   most : length new.bytes ≤ length old.bytes + count
 
@@ -183,7 +183,7 @@ reply_long (reply.Authenticate value) can is = omega (arith, written_reply-joins
 pub stub_long : (value : Reply) (stub : List ℕ) → AreBytes stub → CanWriteReply value → reply_of (opnum_of_reply value) stub ≡ Ok value → stub ≡ written_reply value → length stub ≤ stub_limit
 stub_long value stub bytes can again is = rw is (reply_long value can (reply_of-InRange (opnum_of_reply value) stub value bytes again))
 
--- ---- its frames
+-- ---- the frames of a reply
 
 -- a fragment has a header of 16 bytes, and 8 of its body before the stub
 fragment_bytes : (call context : ℕ) (first last : Bool) (whole piece : List ℕ) → length (written (fragment (response_of call context whole) first last piece)) ≡ 24 + length piece

@@ -202,7 +202,7 @@ texts_have Has has (action.Close at cause ∷ kept) are = absurd are.0
 texts_have Has has (action.Told at outcome ∷ kept) are = absurd are.0
 texts_have Has has (action.Judged how ∷ kept) are = absurd are.0
 
--- what is refused
+-- a call that is refused: it is judged so, and an answer goes out on its line
 pub record IsRefusedAs (how : Judged) (line : Line) (before after : Work) : Type 0 where
   pub computers : after.computers ≡ before.computers
   pub answer : List ℕ
@@ -229,7 +229,7 @@ asked_denied (asked.Set account kind hidden) how line work = two work.actions _ 
 
 -- ---- a call on a secure channel: it passes or is refused, whatever it asks
 
--- its computer has a channel, on which its authenticator isn't the next one
+-- the call's computer has a channel, on which the call's authenticator isn't the next one
 pub record IsBarred (c : JudgedCall) (computers : Computers) : Type 0 where
   pub computer : List ℕ
   pub given : Authenticator
@@ -239,7 +239,7 @@ pub record IsBarred (c : JudgedCall) (computers : Computers) : Type 0 where
   pub stands : lookup same_name computer computers.channels ≡ Some channel
   pub fails : passes_on channel given ≡ false
 
--- its computer has no channel
+-- the call's computer has no channel
 abbrev pub HasNoChannel : JudgedCall → Computers → Type 0
 HasNoChannel c computers =
     (computer : List ℕ) (given : Authenticator) → computer_named c ≡ Some computer → given_in c ≡ Some given → lookup same_name computer computers.channels ≡ None
@@ -348,7 +348,7 @@ module _ (c : JudgedCall) (name : List ℕ) (now : ℕ) (line : Line) (d : Desk)
   pub judged_comes : JudgedComes c name now line d (answer_judged c name now line d)
   judged_comes = by_names (computer_named c) (given_in c) refl refl
 
--- it is the same next one, however it is known to be
+-- a call with the next authenticator passed by that one, however this is known
 pub passed_so : (c : JudgedCall) (name : List ℕ) (now : ℕ) (line : Line) (d after : Desk) (next : IsNext d.work.computers (computer_named c) (given_in c)) →
     JudgedComes c name now line d after → IsPassed c name now line d next after
 passed_so c name now line d after next (Refused how away) = absurd (away.not_next next)

@@ -14,7 +14,7 @@ same_with : (one other key : List ℕ) → SameName one other → same_name one 
 unfolding same_name
 same_with one other key same = ap (λ (upper : List ℕ). bytes_eq upper (upper_case key)) same
 
--- the same name finds the same channel
+-- two forms of one name find one channel
 found_alike : (one other : List ℕ) (entries : Entries) → SameName one other → lookup same_name one entries ≡ lookup same_name other entries
 found_alike one other [] same = refl
 found_alike one other (entry ∷ entries) same = rw (same_with one other entry.0 same, found_alike one other entries same) refl

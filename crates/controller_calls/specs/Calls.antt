@@ -17,7 +17,7 @@ computer_named (Logoff c) = c.computer
 computer_named (NetworkLogoff c) = c.computer
 computer_named (Set c) = Some c.computer
 
--- its authenticator
+-- a call's authenticator
 abbrev pub given_in : JudgedCall → Option Authenticator
 given_in (Network c) = c.authenticator
 given_in (Interactive c) = c.authenticator
@@ -33,7 +33,7 @@ asked_of (Logoff c) = asked.Logoff c.info
 asked_of (NetworkLogoff c) = asked.NetworkLogoff
 asked_of (Set c) = asked.Set c.account c.channel c.hidden
 
--- whether it asks for another secret
+-- whether a call asks for another secret
 abbrev pub is_set : JudgedCall → Bool
 is_set (Network c) = false
 is_set (Interactive c) = false

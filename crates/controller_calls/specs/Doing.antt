@@ -103,7 +103,7 @@ abbrev pub done_by : JudgedCall → SecureChannelState → List ℕ → AccountT
 done_by c channel name table now sessions =
     done_asked (asked_of c) (computer_or_none (computer_named c)) (key_of_channel channel) name table now sessions
 
--- ---- its reply
+-- ---- the reply to a call
 
 -- what is granted has its key under the session key of the channel
 abbrev pub info_done : ℕ → List ℕ → Option Verdict → Option SamInfo

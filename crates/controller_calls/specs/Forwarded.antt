@@ -13,7 +13,7 @@ pub record ForwardedState : Type 0 where
   pub key : List ℕ
   pub credential : List ℕ
 
--- it was asked for at a level that is served, on a line
+-- where there is a line, `IsLine` holds of it
 abbrev pub IsLineIfThere : Option Line → Type 0
 IsLineIfThere None = Unit {0}
 IsLineIfThere (Some line) = IsLine line

@@ -35,7 +35,7 @@ abbrev pub opened_if : (is_its : Bool) (channel : SecureChannelState) → Result
 opened_if false channel = Err access_denied
 opened_if true channel = Ok channel
 
--- it opens where the client's credential is that of its challenge (3.1.4.4.2)
+-- a channel opens where the client's credential is that of its challenge (3.1.4.4.2)
 abbrev pub opened_by_credential : SecureChannelState → AuthCall → Result SecureChannelState ℕ
 opened_by_credential channel c = opened_if (bytes_eq c.credential (cred_of (key_of_channel channel) channel.client)) channel
 

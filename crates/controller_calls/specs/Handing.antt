@@ -46,8 +46,8 @@ abbrev pub trust_below : (is_asked : Bool) → ℕ → Option ℕ
 trust_below false trust = None
 trust_below true trust = Some trust
 
--- with the first so many trusts that can be asked
-abbrev pub trust_by : (hands : Bool) → (serves : Bool) → Route → ℕ → Option ℕ
+-- the trust of a route, where it is among the first `trusts`, which can be asked
+abbrev pub trust_by : (hands : Bool) → (serves : Bool) → Route → (trusts : ℕ) → Option ℕ
 trust_by true true (route.Trust trust) trusts = trust_below (nat_lt trust trusts) trust
 trust_by _ _ _ trusts = None
 

@@ -12,9 +12,10 @@ use Rattle.controller_calls.specs.declared.state.Work.{Work}
 
 -- How a call is answered.
 pub record CallAnswers : Type 0 where
-  -- where there is no channel, or its authenticator doesn't pass, as it was judged
+  -- where there is no channel, or the call's authenticator doesn't pass, as the call was judged
   pub refused : Judged → Work → Work
-  -- where it passes: by the computer, its channel as it stood before the call, and the credential that is returned
+  -- where the call passes: by the computer, its channel as it stood before the call, and the credential that is
+  -- returned
   pub passed : List ℕ → SecureChannelState → List ℕ → Desk → Desk
 
 -- by the credential that is returned, where the authenticator passes

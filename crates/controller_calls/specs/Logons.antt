@@ -90,7 +90,7 @@ network_answers name now line info validation = record {
   passed = λ computer channel credential d. pass_network name now line info validation (key_of_channel channel) credential d;
 }
 
--- ---- the same by the parts of the call, as it is judged
+-- ---- a logon by the parts of the call, as it is judged
 
 abbrev pub judge_return : Option (List ℕ) → List ℕ → List ℕ → ℕ → Line → NetworkInfo → ℕ → Desk → Desk
 judge_return credential key name now line info validation d =

@@ -30,7 +30,7 @@ pub record IsNext (computers : Computers) (name : Option (List ℕ)) (shown : Op
   pub stands : lookup same_name computer computers.channels ≡ Some channel
   pub passes : Passes (key_of_channel channel) channel.seed given
 
--- whether it judges a call that was heard: what a logon that was asked of another controller came to later doesn't
+-- whether what is told judges a call that was heard: what a logon that was asked of another controller came to doesn't
 abbrev pub judges_call : Judged → Bool
 judges_call (judged.Passed status) = true
 judges_call judged.Forwarded = true

@@ -48,7 +48,7 @@ abbrev pub is_of : (opening : ℕ) (found : Option KeptSeal) → Bool
 is_of opening None = false
 is_of opening (Some kept) = kept.opening == opening
 
--- it stands: no other was opened for that computer since the link's bind
+-- whether a link's seal stands: no other channel was opened for that computer since the link's bind
 abbrev pub stands : LinkSeal → ChannelSeals → Bool
 stands link seals = is_of link.opening (lookup same_name link.computer seals.kept)
 

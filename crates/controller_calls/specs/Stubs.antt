@@ -64,7 +64,7 @@ end_unsent info computer credential table work =
     logoff_unsent (logoff_status (is_open work.computers.sessions computer info)) credential table
     (with_sessions (taken_from work.computers.sessions computer info.user info.logon_id) work)
 
--- ---- another secret
+-- ---- the reply to a call that sets another secret
 
 abbrev pub set_unsent : (status : ℕ) (credential : List ℕ) → AccountTable → Work → Unsent
 set_unsent status credential table work =

@@ -90,7 +90,7 @@ told_unasked work = tell work (action.Judged (judged.Passed no_logon_servers))
 abbrev pub unasked_stub : ForwardedState → List ℕ
 unasked_stub f = written_reply (forwarded_reply f (Status no_logon_servers))
 
--- ---- as it goes out where nothing is sealed
+-- ---- a reply goes out as where nothing is sealed
 
 abbrev pub send_unsent : Option (List ℕ) → Line → Work → Work
 send_unsent None line work = work

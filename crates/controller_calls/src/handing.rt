@@ -40,7 +40,7 @@ fn hands_on(kind: Option<u16>) -> bool
     matches!(kind, Some(2 | 6))
 }
 
-/// The trust whose controller is asked for what came on a channel of that type, where the first so many can be asked.
+/// The trust whose controller is asked for what came on a channel of that type, where the first `trusts` can be asked.
 /// It takes no memory.
 pub(crate) fn trust_asked(
     table: &Table,
@@ -128,7 +128,7 @@ pub fn answer_unasked(
     send_stub(alloc, work, line, stub)
 }
 
-/// It is told that a logon passed with NO_LOGON_SERVERS.
+/// Tells that a logon passed, with NO_LOGON_SERVERS.
 pub fn told_unasked(work: Work) -> Result<Work, NoMemory>
     ensures { IfOk result (λ w. w ≡ told_unasked work) }
 {

@@ -161,7 +161,7 @@ pub(crate) fn refused_logoff_stub(alloc: Global) -> Result<Blob, NoMemory>
     logoff_stub(alloc, None, STATUS_ACCESS_DENIED)
 }
 
-/// The first session of that computer, user and logon is taken out (MS-NRPC 3.5.4.5.4).
+/// Takes out the first session of that computer, user and logon (MS-NRPC 3.5.4.5.4).
 pub(crate) fn end_session(
     alloc: Global,
     info: &InteractiveInfo,

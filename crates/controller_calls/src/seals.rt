@@ -110,7 +110,7 @@ fn place_kept(kept: &[(Units, KeptSeal)], computer: &[u16]) -> Option<usize>
     None
 }
 
-/// Whether it is that name, in any case. It takes no memory.
+/// Whether a name is the computer's, in any case. It takes no memory.
 fn is_of(name: &Units, computer: &[u16]) -> bool
     ensures { result ≡ same_name computer.now name.now }
 {
@@ -175,9 +175,9 @@ fn belongs_named(link: &Option<LinkSeal>, named: &Option<Units>, seals: &Channel
 
 // ---- the channel that a bind seals its link by
 
-/// The seal of a link whose bind has a trailer of that context with that value, from an end that receives so many
-/// bytes (MS-NRPC 2.2.1.3.1). None where the value tells no names, or the computer's channel doesn't seal: such a bind
-/// is refused.
+/// The seal of a link whose bind has a trailer with this context number and value, and comes from an end that receives
+/// `receive` bytes in a fragment (MS-NRPC 2.2.1.3.1). None where the value tells no names, or the computer's channel
+/// doesn't seal: the bind is refused then.
 pub fn link_bound(
     alloc: Global,
     value: &[u8],

@@ -30,7 +30,7 @@ bit-le : (b : Bool) → cond b 1 0 ≤ 1
 bit-le true = lit≤ tt
 bit-le false = lit≤ tt
 
--- a number of so many bits
+-- the number of the first `i` bits is below 2^i
 number_of-below : (bits : List Bool) (i : ℕ) → i ≤ length bits → number_of (take i bits) < 2 ^ i
 number_of-below bits zero h = omega (arith, number_of_none)
 number_of-below bits (suc i) h =

@@ -132,7 +132,7 @@ cipher_back keys block h =
     ∙ ap last_block (rounds_back keys first long)
     ∙ last_block-exchanged block h
 
--- and is undone by it
+-- a block that was ciphered by the reversed keys is ciphered back by the keys
 pub cipher_forth : (keys : List (List Bool)) (block : List Bool) → length block ≡ 64 → cipher keys (cipher (reverse keys) block) ≡ block
 cipher_forth keys block h =
     ap (λ z. cipher z (cipher (reverse keys) block)) (sym (reverse-reverse keys)) ∙ cipher_back (reverse keys) block h

@@ -33,7 +33,7 @@ all_left : list_all left_1 (range_with_len 0 8) ≡ true
 unfolding left_1 left_2 left_3 left_4 left_bit left_place left_order key_places
 all_left = refl
 
--- such key bits are among the first four of their byte, or none
+-- the key bit of a left place is among the first four of its byte, or there is none
 left_c : ℕ → ℕ → Bool
 left_c k j = nat_le ((left_place k j - 1) % 8) 3
 
@@ -71,7 +71,7 @@ all_right : list_all right_1 (range_with_len 0 8) ≡ true
 unfolding right_1 right_2 right_3 right_4 right_bit right_place right_order key_places
 all_right = refl
 
--- such key bits are the fourth to the seventh of their byte; 0, for none, passes too
+-- the key bit of a right place is the fourth to the seventh of its byte; 0, for none, passes too
 right_c : ℕ → ℕ → Bool
 right_c k j = nat_eq (right_place k j) 0 || (nat_le 3 ((right_place k j - 1) % 8) && nat_le ((right_place k j - 1) % 8) 6)
 

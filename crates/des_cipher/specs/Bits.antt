@@ -19,8 +19,8 @@ combined [] ys = []
 combined (x ∷ xs) [] = []
 combined (x ∷ xs) (y ∷ ys) = xor x y ∷ combined xs ys
 
--- the last bits of a number, as many as the first argument says, the highest first
-unfoldable pub number_bits : ℕ → ℕ → List Bool
+-- the last bits of a number, as many as `width`, the highest first
+unfoldable pub number_bits : (width number : ℕ) → List Bool
 number_bits zero n = []
 number_bits (suc width) n = (bit_at n width == 1) ∷ number_bits width n
 

@@ -29,8 +29,8 @@ left_place k j = slice_index_or (slice_index_or key_places k []) (slice_index_or
 unfoldable pub right_place : ℕ → ℕ → ℕ
 right_place k j = slice_index_or (slice_index_or key_places k []) (slice_index_or right_order j 48) 0
 
--- the bit of a key with this number, if it is in the first so many bytes, else 0
-unfoldable pub bit_so_far : List ℕ → ℕ → ℕ → ℕ
+-- the bit of a key with the number `p`, if it is in the first `i` bytes, else 0
+unfoldable pub bit_so_far : List ℕ → (i p : ℕ) → ℕ
 bit_so_far key i p =
     if nat_lt 0 p && nat_le p (8 * i) then bit_at (slice_index_or key ((p - 1) / 8) 0) (7 - (p - 1) % 8) else 0
 

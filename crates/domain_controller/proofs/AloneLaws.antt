@@ -116,7 +116,7 @@ front_refuses f more below long =
     let there : nat_le 16 (length held) ≡ true = le-leb 16 (length held) (omega (arith, length-append (written f) more, long)) in
     (refuses.0, front_by (nat_le 16 (length held)) (kind_in true held) held refuses.0 there kind)
 
--- it can be written, and its length is told
+-- a unit that can be written, and whose length is told
 abbrev IsLoose : RpcUnit → Type 0
 IsLoose f = IsWritable f × IsInRange f × (length (written f) < 2 ^ 16)
 

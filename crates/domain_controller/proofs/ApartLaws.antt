@@ -70,7 +70,7 @@ put_apart number link how links off apart = record {
 
 -- ---- the turn's link
 
--- it is that one or none
+-- the link of the turn is the one before, or there is none
 abbrev IsLess : Dialling → Dialling → Type 0
 IsLess after before = (n : ℕ) → is_on n after ≡ true → is_on n before ≡ true
 

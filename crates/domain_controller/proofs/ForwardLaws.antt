@@ -68,7 +68,7 @@ some_inside [] (suc at) item is = absurd (let x = is in cc)
 some_inside (first ∷ items) zero item is = omega arith
 some_inside (first ∷ items) (suc at) item is = let rest = some_inside items at item is in omega arith
 
--- so it is of what a call answers that puts it back
+-- where a call answers what its turn puts back, that is what the turn does to the parts
 pub turned_if : (result : Result Parts NoMemory) (happens : Turning → Turned) (parts : Parts) (turning : Turning) (done : Turned) (beside : Beside) →
     slice_get parts.work.queues.requesters parts.turn_of ≡ Some turning.channel → turning ≡ turning_of turning.channel parts →
     beside ≡ beside_of parts.turn_of parts → done ≡ happens turning → IfOk result (λ after. after ≡ put_back parts.turn_of done beside) →
@@ -174,7 +174,7 @@ changed_at f [] at d lt = absurd (omega arith)
 changed_at f (first ∷ items) zero d lt = refl
 changed_at f (first ∷ items) (suc at) d lt = ap (λ rest. f first ∷ rest) (changed_at f items at d (omega arith))
 
--- those before the place are changed, and then that one is
+-- items are changed one by one: those before the place are, and then the one there
 pub one_changed : {T : Type 0} (f : T → T) (items now : List T) (at : ℕ) (d : T) → at < length items → now ≡ map f (take at items) ++ drop at items →
     slice_set now at (f (slice_index_or now at d)) ≡ map f (take (at + 1) items) ++ drop (at + 1) items
 one_changed f items now at d lt so_far =

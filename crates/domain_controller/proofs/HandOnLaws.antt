@@ -42,13 +42,13 @@ use Rattle.domain_controller.proofs.ForwardLaws.{asked_none, asked_place}
 
 -- ---- a call is judged here, or handed on
 
--- it passes, and a trust's controller can be asked for it
+-- a call passes, and a trust's controller can be asked for its logon
 record IsHandedOn (c : JudgedCall) (at : CallPlace) (before : Desk) : Type 0 where
   next : IsNext before.work.computers (computer_named c) (given_in c)
   trust : ℕ
   asks : trust_asked (asked_of c) next.channel.kind before.table at.trusts ≡ Some trust
 
--- then it comes to this, by the computer, its channel, the authenticator and the trust
+-- what a call that is handed on comes to, by the computer, its channel, the authenticator and the trust
 abbrev handed_by : JudgedCall → CallPlace → Desk → List ℕ → SecureChannelState → Authenticator → ℕ → Handing
 handed_by c at before computer channel given trust = (
   move_on computer channel given before,
@@ -112,7 +112,7 @@ module _ (c : JudgedCall) (at : CallPlace) (d : Desk) where
   handing_comes : HandingComes c at d (answer_judged c at.name at.now at.line d) (judge_call c at d)
   handing_comes = by_names (computer_named c) (given_in c) refl refl
 
-  -- it is the same logon, however it is known to be handed on
+  -- a call that is handed on comes to one handing, however it is known to be handed on
   handed_so : (is : IsHandedOn c at d) (here : Desk) (handing : Handing) → HandingComes c at d here handing →
       handing ≡ handed_by c at d is.next.computer is.next.channel is.next.given is.trust
   handed_so is here handing (Here not same) = absurd (not is)

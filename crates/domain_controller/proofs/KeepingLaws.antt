@@ -31,7 +31,7 @@ use Rattle.controller_calls.specs.declared.calls.JudgedCall.{JudgedCall}
 use Rattle.domain_controller.specs.Keeping.{KeepsSecrets, text_after}
 use Rattle.domain_controller.proofs.UnsetLaws.{interactive_levels, levels}
 use Rattle.domain_controller.proofs.TrustWalkLaws.{TrustWalks, trust_leads}
-use Rattle.domain_controller.proofs.WalkLaws.{DeskWalks, IsQuiet, desk_leads}
+use Rattle.domain_controller.proofs.WalkLaws.{DeskWalks, TellsNothing, desk_leads}
 
 -- ---- what is told and kept, by the calls
 
@@ -114,7 +114,7 @@ kept_walks name now = record {
 }
 
 -- what is sent beside keeps no text
-quiet_text : (new : List Action) (text : List ℕ) → AllByRecursion IsQuiet new → text_after text new ≡ text
+quiet_text : (new : List Action) (text : List ℕ) → AllByRecursion TellsNothing new → text_after text new ≡ text
 quiet_text [] text all = refl
 quiet_text (what ∷ new) text all = ap (λ (kept : List ℕ). text_after kept new) (all.0.text text) ∙ quiet_text new text all.1
 

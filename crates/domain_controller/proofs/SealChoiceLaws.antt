@@ -21,7 +21,7 @@ pub steps_plain : (result : Result (List Action) StepRefused) (s new : State) (w
 steps_plain result s new what now before after none steps =
     subst (λ (o : Option Sealing). StepsBy result (step_with o s what now before.left) (trust_halted s) new before after) (sym none) steps
 
--- it stays one
+-- a controller that can't seal stays one
 pub plain_stays : (result : Result (List Action) StepRefused) (s new : State) (what : Event) (now : ℕ) (before after : Drawing) → s.trusting.sealing ≡ None →
     StepsBy result (trust_step_of s what now before.left) (trust_halted s) new before after → new.trusting.sealing ≡ None
 plain_stays (Ok actions) s new what now before after none steps =
@@ -44,7 +44,7 @@ sealing_on : (running : Option Running) (sealing : Sealing) (s : State) (what : 
 sealing_on None sealing s what now left runs = absurd (runs refl)
 sealing_on (Some running) sealing s what now left runs = refl
 
--- it runs, since one that has stopped keeps nothing to seal
+-- a controller that can seal runs, since one that has stopped keeps nothing to seal
 it_runs : (found : Option Sealing) (sealing : Sealing) (s : State) → found ≡ Some sealing → (is_stopped s ≡ true → found ≡ None) → s.running ≡ None → ⊥
 it_runs found sealing s some stopped none =
     let never : None ≡ Some sealing = sym (stopped (ap is_none none)) ∙ some in

@@ -102,7 +102,7 @@ module _ (link : Option LinkSeal) (c : JudgedCall) (computers : Computers) (seal
   own_for : belongs link (computer_named c) seals ≡ true → (computer : List ℕ) → computer_named c ≡ Some computer → IsOnOwnLink link computer seals
   own_for own computer named = own_from link computer seals (sym (ap (λ (n : Option (List ℕ)). belongs link n seals) named) ∙ own)
 
-  -- it is the same channel and the same authenticator
+  -- a call isn't barred and the next one at once: channel and authenticator would be the same
   not_both_so : Next → IsBarredOn link c computers seals → ⊥
   not_both_so next by =
       let channel : by.channel ≡ next.channel =
@@ -279,7 +279,7 @@ module _ (c : JudgedCall) (at : CallPlace) (d : Desk) where
   abbrev NextAt : Type 0
   NextAt = IsNext d.work.computers (computer_named c) (given_in c)
 
-  -- at work whose actions are those, and whose channels are found as before
+  -- a call is refused at work whose actions are those of the desk, and whose channels are found as at the desk
   refused_comes : (how : Judged) (between : Desk) → between.work.actions ≡ d.work.actions →
       ((other : List ℕ) → lookup same_name other between.work.computers.channels ≡ lookup same_name other d.work.computers.channels) → is_passed how ≡ false → (NextAt → ⊥) →
       how ≡ how_refused (computer_named c) (given_in c) d.work.computers → UnsentComes c d (refuse_unsent (asked_of c) how between)
@@ -425,7 +425,7 @@ sealed_judges c before u reply line queues s talk (HandsOn next handed same chan
 
 -- ---- judged by its link
 
--- what is left of the channels by it
+-- what a call leaves of the channels, judged by its link
 pub data LeftOn (link : Option LinkSeal) (c : JudgedCall) (computers : Computers) (seals : ChannelSeals) (channels : Channels) : Type 0 where
   MovedOn : (on : IsNextOn link c computers seals) → channels ≡ channels_on on.next → LeftOn link c computers seals channels
   StayedOn : (IsNextOn link c computers seals → ⊥) → ((other : List ℕ) → lookup same_name other channels ≡ lookup same_name other computers.channels) →

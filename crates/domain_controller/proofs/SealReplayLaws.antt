@@ -83,7 +83,7 @@ channels_by (Some running) (Some sealing) = Some running.computers.channels
 abbrev channels_in : State → Option Channels
 channels_in s = channels_by s.running s.trusting.sealing
 
--- it was served at a controller that can seal
+-- a unit was served at a controller that can seal
 record IsServed (u : UnitHeard) : Type 0 where
   name : List ℕ
   now : ℕ
@@ -480,8 +480,8 @@ module _ (computer : List ℕ) (u : UnitHeard) (s : Sealing) where
   comes : Comes
   comes = by_call its_call refl refl
 
--- the channel of the computer stands so, if the challenges were enough
-abbrev Has : (computer : List ℕ) → Option Channels → SecureChannelState → Type 0
+-- the channel of the computer stands as `channel`, if the challenges were enough
+abbrev Has : (computer : List ℕ) → Option Channels → (channel : SecureChannelState) → Type 0
 Has computer None channel = Unit {0}
 Has computer (Some channels) channel = lookup same_name computer channels ≡ Some channel
 

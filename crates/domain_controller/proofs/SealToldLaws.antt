@@ -177,7 +177,7 @@ module _ (link : LinkSeal) (number : ℕ) (bytes : List ℕ) (talk : Talk) (seal
   opened_read (Err why) is hears = absurd (let x = hears in cc)
   opened_read (Ok unit) is hears = opened_body unit.body unit is refl hears
 
-  -- and back
+  -- a request that can be opened is opened to its plain bytes
   is_opened : (o : IsOpened link bytes seals) → (open_request o.unit.trailer o.opnum bytes link seals).bytes ≡ Some (plain_bytes o)
   is_opened o =
       ap (λ (own : Bool). (open_part (part_if own (range_of bytes)) o.opnum bytes link seals).bytes) o.signed
@@ -273,8 +273,7 @@ bound_alike (Some link) number s = refl
 
 -- ---- what is told of a unit, by what is heard in it
 
--- what is left of the channels where no call on one came: an opening may replace that of its computer
--- the call isn't refused, and is for that computer
+-- an opening replaces the channel of its computer: it isn't refused, and is for that computer
 record Replaces (c : AuthCall) (table : AccountTable) (before : Work) (computer : List ℕ) : Type 0 where
   channel : SecureChannelState
   opens : channel_opened secure_flags table c before.computers ≡ Ok channel
@@ -289,7 +288,7 @@ abbrev ToldBy : Option JudgedCall → Option AuthCall → Option LinkSeal → Ch
 ToldBy None opening link seals table before after = Adds before.actions after.actions [] × OpeningLeaves opening table before after
 ToldBy (Some c) opening link seals table before after = ToldOn link c seals before after
 
--- it still can seal
+-- what seals is still there
 abbrev pub Seals : Option Sealing → Type 0
 Seals sealing = (s : Sealing) × (sealing ≡ Some s)
 
@@ -364,7 +363,7 @@ module _ (name : List ℕ) (now number : ℕ) (bytes : List ℕ) (d : TrustDesk)
   abbrev pub Added : List Action → Type 0
   Added after = AddsAsJudged number bytes talk d s after
 
-  -- it is that call
+  -- the call that is heard in a unit is the only one
   one_call : (one c : JudgedCall) → call_heard its_heard ≡ Some one → HearsCall its_link number bytes talk s.seals c → one ≡ c
   one_call one c is hears =
       let both : Some one ≡ Some c = sym is ∙ hears_so its_link number bytes talk s.seals c hears in

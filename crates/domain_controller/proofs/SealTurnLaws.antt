@@ -88,7 +88,7 @@ pub ruleset turning = (turn_closed, link_dropped, dial_answered, dial_failed)
 
 -- ---- bytes
 
--- they come on the link of the turn
+-- bytes that come on the link of the turn
 pub turn_hears : (name : List ℕ) (now number : ℕ) (piece : List ℕ) (table : AccountTable) (parts : Parts) (s : Sealing) (after : Parts × Sealing) (before later : Drawing) →
     is_on number parts.dialling ≡ true → after ≡ seal_on_turn (λ turning. link_hears number piece turning) parts s → later ≡ before →
     seal_serve_bytes (is_on number parts.dialling) number piece name now table parts s before.left ≡ seal_part table after later.left
@@ -104,7 +104,7 @@ turn_unheard name now number piece table parts s before later on still =
     subst (λ (is : Bool). AnswersBy (Err Memory) (seal_serve_bytes is number piece name now table parts s before.left) later.left) (sym on)
     (subst (λ (d : Drawing). AnswersBy (Err Memory) (seal_serve_bytes true number piece name now table parts s before.left) d.left) (sym still) (IsRest-refl before.left))
 
--- they come on an accepted link
+-- bytes that come on an accepted link
 pub link_hears_them : (result : Result (Parts × Sealing) StepRefused) (name : List ℕ) (now number : ℕ) (piece : List ℕ) (old new : AccountTable) (parts : Parts) (s : Sealing) (before later : List (List ℕ)) →
     is_on number parts.dialling ≡ false →
     AnswersBy (at_seal_parts new result) (seal_serve_on (lookup same_number number parts.links) number piece name now (take_out same_number number parts.links) old parts s before) later →

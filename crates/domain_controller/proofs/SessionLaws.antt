@@ -53,7 +53,7 @@ use Rattle.domain_controller.specs.TrustStep.{trust_state_after, trust_step_of}
 use Rattle.domain_controller.specs.declared.state.Running.{Running}
 use Rattle.domain_controller.proofs.HandOnLaws.{judges_refused}
 use Rattle.domain_controller.proofs.TrustWalkLaws.{IsMovedOn, TrustWalks, trust_leads}
-use Rattle.domain_controller.proofs.WalkLaws.{DeskWalks, IsQuiet, desk_leads}
+use Rattle.domain_controller.proofs.WalkLaws.{DeskWalks, TellsNothing, desk_leads}
 
 -- ---- no rule refuses with status 0
 
@@ -268,7 +268,7 @@ quiet_call (action.Close link cause) none = refl
 quiet_call (action.Told link outcome) none = refl
 quiet_call (action.Judged how) none = absurd (let x = none in cc)
 
-quiet_calls : (new : List Action) → AllByRecursion IsQuiet new → calls_told new ≡ []
+quiet_calls : (new : List Action) → AllByRecursion TellsNothing new → calls_told new ≡ []
 quiet_calls [] all = refl
 quiet_calls (what ∷ new) all =
     ap (λ (told : List Judged). told ++ calls_told new) (quiet_call what all.0.told) ∙ quiet_calls new all.1

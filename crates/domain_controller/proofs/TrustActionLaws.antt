@@ -342,7 +342,7 @@ serve_acts number link piece name now others table parts left bare =
     after_acts part number cut.units cut.rest others parts
     (subst (λ (before : List Action). TrustAdds number cut.units before part) bare (link_serves number cut name now (trust_desk table parts.work) link.talk left))
 
--- ---- and then the next turn
+-- ---- the turn that starts behind an event
 
 abbrev pub NextDials : List Action → Result (Part Parts) StepRefused → Type 0
 NextDials before (Err why) = Unit {0}

@@ -64,7 +64,7 @@ use Rattle.domain_controller.proofs.UnitLaws.{UnitCases, heard_comes}
 
 -- ---- actions
 
--- it tells neither that a logon is handed on, nor that one is answered
+-- an action tells neither that a logon is handed on, nor that one is answered
 record IsStill (what : Action) : Type 0 where
   answers : answers_in what ≡ 0
   forwards : forwards_in what ≡ 0

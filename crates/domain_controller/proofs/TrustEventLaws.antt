@@ -30,7 +30,7 @@ judged_so c name now trusts line old new w judged handed is count =
     ap (λ n. after_handing (judge_call c (record { name = name; now = now; line = line; trusts = n }) (desk old w.work)) line w.queues) (sym count)
     ∙ ap (λ (h : Handing). after_handing h line w.queues) (sym is)
 
--- its logon is handed on
+-- a call whose logon is handed on
 pub handed_on : (c : JudgedCall) (name : List ℕ) (now trusts : ℕ) (line : Line) (old new : AccountTable) (w after : TrustWork) (judged : Work) (found : Option HandOn) (handed : HandOn) →
     ◌≡◌ {A = Handing} (desk new judged, found) (judge_call c (record { name = name; now = now; line = line; trusts = trusts }) (desk old w.work)) →
     trusts ≡ length w.queues.requesters → found ≡ Some handed →
@@ -40,7 +40,7 @@ handed_on c name now trusts line old new w after judged found handed is count ha
     ap (λ (a : TrustWork). trust_desk new a) forwards
     ∙ sym (judged_so c name now trusts line old new w judged found is count ∙ ap (λ (h : Option HandOn). after_handing (desk new judged, h) line w.queues) hands)
 
--- it is answered here
+-- a call that is answered here
 pub answered_here : (c : JudgedCall) (name : List ℕ) (now trusts : ℕ) (line : Line) (old new : AccountTable) (w : TrustWork) (judged : Work) (found : Option HandOn) →
     ◌≡◌ {A = Handing} (desk new judged, found) (judge_call c (record { name = name; now = now; line = line; trusts = trusts }) (desk old w.work)) →
     trusts ≡ length w.queues.requesters → found ≡ None →
@@ -74,7 +74,7 @@ pub ruleset turning = (turn_closed, dial_answered, dial_failed)
 abbrev whole_part : AccountTable → Parts → List (List ℕ) → TrustPart
 whole_part table parts left = Ok (record { value = record { table = table; parts = parts }; left = left })
 
--- they come on the link of the turn
+-- bytes that come on the link of the turn
 pub turn_hears : (name : List ℕ) (now number : ℕ) (piece : List ℕ) (table : AccountTable) (parts after : Parts) (before later : Drawing) →
     is_on number parts.dialling ≡ true → after ≡ on_turn (λ turning. link_hears number piece turning) parts → later ≡ before →
     serve_bytes (is_on number parts.dialling) number piece name now table parts before.left ≡ whole_part table after later.left
@@ -97,7 +97,7 @@ pub drew_few : (before later : Drawing) (most : ℕ) → later ≡ before → le
 drew_few before later most still =
     subst (λ (d : Drawing). length before.left ≤ length d.left + most) (sym still) (omega arith)
 
--- they come on an accepted link
+-- bytes that come on an accepted link
 pub link_hears_them : (result : Result Parts StepRefused) (name : List ℕ) (now number : ℕ) (piece : List ℕ) (old new : AccountTable) (parts : Parts) (before later : List (List ℕ)) →
     is_on number parts.dialling ≡ false →
     AnswersBy (at_parts new result) (serve_on (lookup same_number number parts.links) number piece name now (take_out same_number number parts.links) old parts before) later →

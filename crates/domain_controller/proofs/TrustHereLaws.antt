@@ -138,7 +138,7 @@ queues_of requesters = record { requesters = requesters; forwarded = [] }
 abbrev pub beside_them : List Requester → Desk → TrustDesk
 beside_them requesters d = with_queues (queues_of requesters) d
 
--- it is served as where nobody is asked, or it is told that it is for a trusted domain
+-- a call is served as where nobody is asked, or is told to be for a trusted domain
 pub data ServesHere (requesters : List Requester) (part : ServedPart TrustDesk Talk) (alone : ServedPart Desk Talk) : Type 0 where
   Alone : part ≡ beside (queues_of requesters) alone → ServesHere requesters part alone
   ForTrust : Tells part → ServesHere requesters part alone
@@ -309,7 +309,7 @@ module _ (requesters : List Requester) (turn : ℕ) where
       ap (λ (who : Option ℕ). then_part (start_at who trusts now (parts_here part.value.0.work part.value.1) part.left)
       (λ later last. trust_part part.value.0.table later last)) none
 
--- ---- or a turn starts for a logon that was asked
+-- ---- a turn starts for a logon that was asked
 
 abbrev NextTells : Result (Part Parts) StepRefused → Type 0
 NextTells (Err why) = Unit {0}

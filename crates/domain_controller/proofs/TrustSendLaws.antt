@@ -130,7 +130,7 @@ module _ (link : ℕ) (all : List (List ℕ)) where
         adds_both On old d.work.work.actions _ adds (adds_one On d.work.work.actions (action.Close link close.BadUnit) refl);
   }
 
--- all of a piece: each send answers one of its units
+-- each send for a piece answers one of its units
 pub link_serves : (link : ℕ) (cut : Cut) (name : List ℕ) (now : ℕ) (d : TrustDesk) (talk : Talk) (left : List (List ℕ)) →
     TrustAdds link cut.units d.work.work.actions (served_cut (trust_server name now link) cut d talk left)
 link_serves link cut name now d talk left =

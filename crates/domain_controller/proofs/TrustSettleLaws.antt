@@ -43,7 +43,7 @@ use Rattle.controller_calls.specs.declared.line.Line.{Line}
 use Rattle.controller_calls.specs.declared.state.Work.{Work}
 use Rattle.domain_controller.specs.Forwarding.{answer_found, answer_place, calls_without}
 use Rattle.domain_controller.specs.State.{State}
-use Rattle.domain_controller.specs.TrustLaws.{ClosesNone, IsQuiet, IsWithin, Settles}
+use Rattle.domain_controller.specs.TrustLaws.{ClosesNone, ClosesNoLink, IsWithin, Settles}
 use Rattle.domain_controller.specs.TrustStep.{TrustPart, TrustParts, after_turned, answer_dial, close_by, close_number, dial_weight, event_and_turn, fail_dial, first_waiting, idle_by, is_idle, next_if, next_part, next_turn, parts_of, start_at, start_on, trust_halted, trust_part, trust_state_after, trust_step_on, trusting_after, trusting_weight, turn_at, turn_weight, turned_work, turning_of, waiting_weight, without_link}
 use Rattle.domain_controller.specs.Trusting.{ForwardedCalls, same_place}
 use Rattle.domain_controller.specs.declared.state.Running.{Running}
@@ -56,7 +56,7 @@ pub made_more : (actions more : List Action) → most_made_by (actions ++ more) 
 made_more [] more = omega arith
 made_more (b ∷ actions) more = omega (arith, made_more actions more)
 
-quiet_more : (actions more : List Action) → AllByRecursion IsQuiet actions → AllByRecursion IsQuiet more → AllByRecursion IsQuiet (actions ++ more)
+quiet_more : (actions more : List Action) → AllByRecursion ClosesNoLink actions → AllByRecursion ClosesNoLink more → AllByRecursion ClosesNoLink (actions ++ more)
 quiet_more [] more all also = also
 quiet_more (b ∷ actions) more all also = (all.0, quiet_more actions more all.1 also)
 
@@ -98,14 +98,14 @@ taken_count key (entry ∷ calls) f is =
 
 -- nothing is closed, no more is to be made than before, and who waits stays
 record Ends (before after : TrustWork) : Type 0 where
-  quiet : AllByRecursion IsQuiet before.work.actions → AllByRecursion IsQuiet after.work.actions
+  quiet : AllByRecursion ClosesNoLink before.work.actions → AllByRecursion ClosesNoLink after.work.actions
   less : most_made_by after.work.actions + length after.queues.forwarded ≤ most_made_by before.work.actions + length before.queues.forwarded
   requesters : after.queues.requesters ≡ before.queues.requesters
 
 abbrev sent : Line → Reply → List Action
 sent line answer = action.Send line.link (bytes_of_call (response_of line.call line.context (written_reply answer)) line.limit) ∷ []
 
-reply_quiet : (line : Option Line) (answer : Reply) (work : Work) → AllByRecursion IsQuiet work.actions → AllByRecursion IsQuiet (reply_if line answer work).actions
+reply_quiet : (line : Option Line) (answer : Reply) (work : Work) → AllByRecursion ClosesNoLink work.actions → AllByRecursion ClosesNoLink (reply_if line answer work).actions
 reply_quiet None answer work all = all
 reply_quiet (Some line) answer work all = quiet_more work.actions (sent line answer) all (tt, tt)
 
@@ -138,9 +138,9 @@ place_ends place verdict w = found_ends (lookup same_place place w.queues.forwar
 abbrev pub weight_of : Parts → ℕ
 weight_of p = trusting_weight (trusting_after p)
 
--- nothing was closed, and so much is to be made at most
+-- nothing was closed, and at most `most` events are to be made
 pub record Fits (most : ℕ) (p : Parts) : Type 0 where
-  pub quiet : AllByRecursion IsQuiet p.work.work.actions
+  pub quiet : AllByRecursion ClosesNoLink p.work.work.actions
   pub within : most_made_by p.work.work.actions + weight_of p ≤ most
 
 abbrev pub FitsPart : ℕ → Result (Part Parts) StepRefused → Type 0
@@ -161,7 +161,7 @@ idle_first None whose = omega arith
 idle_first (Some trust) whose = omega arith
 
 lost_fits : (most : ℕ) (cause : DropCause) (s : Requester) (p : Parts) → slice_get p.work.queues.requesters p.turn_of ≡ Some s →
-    AllByRecursion IsQuiet p.work.work.actions → made_in p + idle_by s.waiting ≤ most →
+    AllByRecursion ClosesNoLink p.work.work.actions → made_in p + idle_by s.waiting ≤ most →
     Fits most (after_turned p.turn_of (drop_turn cause s p.work.work.actions) p)
 lost_fits most cause s p is quiet out =
     let mid : TrustWork = turned_work p.turn_of (drop_turn cause s p.work.work.actions).0 p.work in
@@ -262,7 +262,7 @@ answered (dialling.Waits turn frames) most number p on fits =
 -- ---- the next turn
 
 started : (turn : Option Pending) (waiting : List Waiting) (most t : ℕ) (challenge peer : List ℕ) (trust : ℕ) (s : Requester) (p : Parts) →
-    slice_get p.work.queues.requesters trust ≡ Some s → turn ≡ s.turn → waiting ≡ s.waiting → p.dialling ≡ dialling.Nothing → AllByRecursion IsQuiet p.work.work.actions →
+    slice_get p.work.queues.requesters trust ≡ Some s → turn ≡ s.turn → waiting ≡ s.waiting → p.dialling ≡ dialling.Nothing → AllByRecursion ClosesNoLink p.work.work.actions →
     made_in p + 2 ≤ most →
     Fits most (after_turned trust (dial_for (start_turn_by turn waiting s t challenge).answer peer (record (turning_of s p) { channel = (start_turn_by turn waiting s t challenge).state }), None) p)
 started (Some pending) waiting most t challenge peer trust s p is goes same nothing quiet out =
@@ -289,7 +289,7 @@ abbrev dialled : ℕ → ℕ → List ℕ → Requester → Parts → Result (Pa
 dialled trust now peer s p part = then_part part (λ turning rest. next_part (after_turned trust (turning, None) p) rest)
 
 begun_by : (can needs : Bool) (most now : ℕ) (peer : List ℕ) (trust : ℕ) (s : Requester) (p : Parts) (left : List (List ℕ)) →
-    slice_get p.work.queues.requesters trust ≡ Some s → p.dialling ≡ dialling.Nothing → AllByRecursion IsQuiet p.work.work.actions → made_in p + 2 ≤ most →
+    slice_get p.work.queues.requesters trust ≡ Some s → p.dialling ≡ dialling.Nothing → AllByRecursion ClosesNoLink p.work.work.actions → made_in p + 2 ≤ most →
     FitsPart most (dialled trust now peer s p (then_part (next_by can needs now s left) (dial_part peer (turning_of s p))))
 begun_by false needs most now peer trust s p left is nothing quiet out =
     let after : List Requester = slice_set p.work.queues.requesters trust s in
@@ -368,12 +368,12 @@ settles s running what now left is =
 -- ---- nothing is closed
 
 part_quiet : (part : TrustPart) (most : ℕ) (s : State) (left : List (List ℕ)) → Stays most part →
-    AllByRecursion IsQuiet (actions_of (step_by (λ (p : TrustParts). p.parts.work.work.actions) (λ p. trust_state_after s p) (trust_halted s) left part))
+    AllByRecursion ClosesNoLink (actions_of (step_by (λ (p : TrustParts). p.parts.work.work.actions) (λ p. trust_state_after s p) (trust_halted s) left part))
 part_quiet (Err why) most s left fits = tt
 part_quiet (Ok part) most s left fits = fits.quiet
 
 quiet_on : (running : Option Running) (s : State) (what : Event) (now : ℕ) (left : List (List ℕ)) → is_made what ≡ true →
-    AllByRecursion IsQuiet (actions_of (trust_step_on running s what now left))
+    AllByRecursion ClosesNoLink (actions_of (trust_step_on running s what now left))
 quiet_on None s what now left is = tt
 quiet_on (Some running) s what now left is =
     part_quiet (event_and_turn s.table.trusts what s.name now s.table (parts_of running s.trusting) left) (trusting_weight s.trusting) s left (event_fits s running what now left is)

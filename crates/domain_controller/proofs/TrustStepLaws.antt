@@ -347,7 +347,7 @@ alone_quiet (Ok actions) s new what now before after nobody steps = λ made.
     ap (λ (stepped : Stepped State). actions_of stepped) (sym steps.is ∙ steps_alone.step s what now before.left nobody) ∙ closes_nothing.made s what now before.left made
 alone_quiet (Err why) s new what now before after nobody steps = tt
 
--- as many are drawn then as the event draws
+-- where nothing is drawn behind an event, as many are drawn as the event draws
 pub few_then : (units : ℕ) (before between after : List (List ℕ)) → length before ≤ length between + units → length between ≤ length after → length before ≤ length after + units
 few_then units before between after few none = omega arith
 

@@ -71,7 +71,7 @@ use Rattle.domain_controller.specs.declared.state.Talk.{Talk}
 use Rattle.domain_controller.specs.declared.trusting.Parts.{Parts}
 use Rattle.domain_controller.specs.declared.trusting.TrustWork.{TrustWork}
 use Rattle.domain_controller.proofs.HandOnLaws.{CallGoes, GoesOn, IsLeft, StaysHere, call_goes}
-use Rattle.domain_controller.proofs.WalkLaws.{AnyTalk, AnyUnit, DeskTrail, DeskWalks, IsQuiet, OfDesks, OfTables, TableTrail, TableWalks, UnitLeads, desk_walks, table_walks, unit_leads}
+use Rattle.domain_controller.proofs.WalkLaws.{AnyTalk, AnyUnit, DeskTrail, DeskWalks, TellsNothing, OfDesks, OfTables, TableTrail, TableWalks, UnitLeads, desk_walks, table_walks, unit_leads}
 
 -- ---- what each change keeps
 
@@ -92,7 +92,7 @@ pub record IsMovedOn (c : JudgedCall) (before after : Desk) : Type 0 where
   pub not_done : is_done how ≡ false
   pub new : List Action
   pub actions : after.work.actions ≡ before.work.actions ++ action.Judged how ∷ new
-  pub quiet : AllByRecursion IsQuiet new
+  pub quiet : AllByRecursion TellsNothing new
 
 pub record TrustWalks (name : List ℕ) (now : ℕ) (R : DeskTrail) : Type 0 where
   pub base : DeskWalks name now R
@@ -203,7 +203,7 @@ module _ (name : List ℕ) (now : ℕ) (R : DeskTrail) (walks : TrustWalks name 
       subst (λ (said : Option Talk). TrustLeads R (call_in h ++ calls_then (talk_after h) later_calls) d (then_talk part.value.0 said part.left later)) (sym leads.1)
       (then_leads (talk_after h) (call_in h) d part.value.0 part.left later_calls later leads.0 each)
 
-  close_quiet : (link : ℕ) (cause : CloseCause) → IsQuiet (action.Close link cause)
+  close_quiet : (link : ℕ) (cause : CloseCause) → TellsNothing (action.Close link cause)
   close_quiet link cause = record { told = refl; text = λ text. refl }
 
   units_lead : (units : List (List ℕ)) (why : Option UnitRefused) (link : ℕ) (d : TrustDesk) (talk : Talk) (left : List (List ℕ)) →

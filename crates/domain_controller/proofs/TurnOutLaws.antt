@@ -98,7 +98,7 @@ same_length f [] (item ∷ other) same = absurd (let x = same in cc)
 same_length f (item ∷ one) [] same = absurd (let x = same in cc)
 same_length f (item ∷ one) (first ∷ other) same = ap suc (same_length f one other (let x = same in cc))
 
--- as many requesters, none of which is out
+-- where requesters are out alike in two lists, none is out in one where none is in the other
 none_alike : (one other : List Requester) → outs one ≡ outs other → none_out one ≡ none_out other
 none_alike [] [] same = refl
 none_alike [] (item ∷ other) same = absurd (let x = same in cc)
@@ -143,7 +143,7 @@ one_set : (idle : Bool) (at : ℕ) (requesters : List Requester) → slice_set (
 one_set true at requesters = set_none requesters at
 one_set false at requesters = refl
 
--- its channel at that place is another then, which agrees
+-- a requester that is put at the place of the turn is out as the turn is
 placed : (idle : Bool) (at : ℕ) (requesters : List Requester) (channel : Requester) (how : Dialling) → outs requesters ≡ one_out idle at requesters →
     is_out channel ≡ not (is_idle how) → outs (slice_set requesters at channel) ≡ one_out (is_idle how) at (slice_set requesters at channel)
 placed idle at requesters channel how is agrees =

@@ -324,14 +324,14 @@ abbrev pub DeskTrail : Type 1
 DeskTrail = List ControllerCall → Desk → Desk → Type 0
 
 -- an action that tells of no judgement, and keeps no text
-pub record IsQuiet (what : Action) : Type 0 where
+pub record TellsNothing (what : Action) : Type 0 where
   pub told : told_in what ≡ []
   pub text : (text : List ℕ) → text_by what text ≡ text
 
 pub record DeskWalks (name : List ℕ) (now : ℕ) (R : DeskTrail) : Type 0 where
   pub same : (d : Desk) → R [] d d
   pub join : (one two : List ControllerCall) (a b c : Desk) → R one a b → R two b c → R (one ++ two) a c
-  pub acts : (d : Desk) (what : Action) → IsQuiet what → R [] d (desk d.table (tell d.work what))
+  pub acts : (d : Desk) (what : Action) → TellsNothing what → R [] d (desk d.table (tell d.work what))
   pub unknown : (line : Line) (c : ChallengeCall) (server : List ℕ) (d : Desk) → R (call.Challenge c ∷ []) d (desk d.table (send_reply d.work line (challenge_reply server)))
   pub known : (line : Line) (c : ChallengeCall) (server : List ℕ) (d : Desk) →
       R (call.Challenge c ∷ []) d (desk d.table (send_reply (put_pair c.computer (pair_for c server) d.work) line (challenge_reply server)))

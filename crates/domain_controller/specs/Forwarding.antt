@@ -97,7 +97,7 @@ asked_of_found (Some requester) info trust requesters =
 abbrev pub ask_trust : NetworkInfo → ℕ → List Requester → List Requester × Option ℕ
 ask_trust info trust requesters = asked_of_found (slice_get requesters trust) info trust requesters
 
--- it waits at that place, which is told, and nothing is sent
+-- a logon waits at a place of its trust, which is told, and nothing is sent
 abbrev pub wait_at : ℕ → ℕ → ForwardedState → List Requester → TrustWork → TrustWork
 wait_at place trust f requesters w = record {
   work = tell w.work (action.Judged judged.Forwarded);

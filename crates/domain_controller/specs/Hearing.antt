@@ -174,7 +174,7 @@ hear link bytes talk = hear_read (unit_of bytes) link talk
 
 -- ---- what is heard can be answered
 
--- the call that is heard is answered on such a line, and the bytes that are sent are one unit of at most 5,840
+-- a call that is heard is on a line that can be answered, and bytes that are sent are one unit of at most 5,840
 abbrev pub CanAnswer : Heard → Type 0
 CanAnswer (heard.Asked line call talk) = IsLine line
 CanAnswer (heard.Close cause) = Unit {0}

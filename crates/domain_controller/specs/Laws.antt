@@ -239,14 +239,14 @@ pub record CountsByVerdict : Type 0 where
       (step_of s what now left).answer ≡ Err why → (step_of s what now left).state.table ≡ s.table
   pub next : (c : LogonCall) (name : List ℕ) (now : ℕ) (line : Line) (d : Desk) → IsNext d.work.computers c.computer c.authenticator →
       (answer_judged (Network c) name now line d).table ≡ (judge_info d.table name now c.info c.validation).table
-  -- its hash is shown under that channel's key
+  -- an interactive logon, whose hash is shown under the channel's key
   pub interactive : (c : InteractiveCall) (name : List ℕ) (now : ℕ) (line : Line) (d : Desk) (next : IsNext d.work.computers c.computer c.authenticator) →
       (answer_judged (Interactive c) name now line d).table
       ≡ (judge_interactive d.table name now c.info c.validation (key_of_channel next.channel)).table
-  -- whatever a call asks
+  -- a call whose authenticator isn't the next one, whatever it asks
   pub barred : (c : JudgedCall) (name : List ℕ) (now : ℕ) (line : Line) (d : Desk) →
       (IsNext d.work.computers (computer_named c) (given_in c) → ⊥) → (answer_judged c name now line d).table ≡ d.table
-  -- whether they pass or don't
+  -- a logoff, whether it passes or doesn't
   pub logoff : (c : InteractiveCall) (name : List ℕ) (now : ℕ) (line : Line) (d : Desk) → (answer_judged (Logoff c) name now line d).table ≡ d.table
   pub network_logoff : (c : LogoffCall) (name : List ℕ) (now : ℕ) (line : Line) (d : Desk) → (answer_judged (NetworkLogoff c) name now line d).table ≡ d.table
   -- the secret becomes what is shown under that channel's key, where the account that the call names is enabled and

@@ -66,7 +66,7 @@ abbrev pub heard_reply : ℕ → ℕ → List ℕ → RpcUnit
 heard_reply call context stub = response_of (call % 2 ^ 32) (context % 2 ^ 16) stub
 
 pub record RepliesAreReadBack : Type 0 where
-  -- a reply that is sent in fragments of such a size
+  -- a reply that is sent in fragments of at most `limit` bytes is heard as that reply
   pub frames : (call context limit : ℕ) (stub : List ℕ) → 1432 ≤ limit → limit ≤ 5840 → length stub ≤ 65536 →
       IsHeard (bytes_of_call (response_of call context stub) limit) (cut_of (heard_reply call context stub) limit) (heard_reply call context stub)
   pub can : (call context limit : ℕ) (stub : List ℕ) → 1432 ≤ limit → limit ≤ 5840 → length stub ≤ 65536 →

@@ -52,7 +52,7 @@ bind_sealed link call receive contexts joiner seals = record {
   bound = Some link;
 }
 
--- without such a channel it is refused
+-- a bind by the channel that stands for its computer: without one it is refused
 abbrev pub bind_by : Option LinkSeal → (call receive : ℕ) → List (ℕ × Syntax × List Syntax) → Option RpcUnit → ChannelSeals → SealHeard
 bind_by None call receive contexts joiner seals = only_heard (hear_sealed_bind call joiner) seals
 bind_by (Some link) call receive contexts joiner seals = bind_sealed link call receive contexts joiner seals

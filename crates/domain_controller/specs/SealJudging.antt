@@ -123,7 +123,7 @@ pub record IsNextOn (link : Option LinkSeal) (c : JudgedCall) (computers : Compu
   pub next : IsNext computers (computer_named c) (given_in c)
   pub own : IsOnOwnLink link next.computer seals
 
--- all of that, but that its authenticator isn't the next one
+-- a call came on a link of its computer's channel, and its authenticator isn't the next one
 pub record IsBarredOn (link : Option LinkSeal) (c : JudgedCall) (computers : Computers) (seals : ChannelSeals) : Type 0 where
   pub computer : List ℕ
   pub given : Authenticator
@@ -160,11 +160,12 @@ IfServed (Ok part) left Fact = Fact part.value.0
 
 -- ---- the units of a step
 
--- those that are served on the link of that number, in order, each with what stood before it
+-- what a unit on the link `number` has told, by what sealed before it
 abbrev pub TellsBySealing : Option Sealing → (number : ℕ) (bytes : List ℕ) (talk : Talk) (computers : Computers) (told : List Judged) → Type 0
 TellsBySealing None number bytes talk computers told = ⊥
 TellsBySealing (Some s) number bytes talk computers told = TellsAsJudged number bytes talk computers s told
 
+-- what the units that are served on the link `number` have told, in order, each by what stood before it
 abbrev pub AreToldInOrder : (number : ℕ) → List (ServedUnit SealDesk Talk) → List Judged → Type 0
 AreToldInOrder number [] told = told ≡ []
 AreToldInOrder number (unit ∷ units) told =

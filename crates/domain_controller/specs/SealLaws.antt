@@ -54,7 +54,7 @@ pub record NoChannelByLink : Type 0 where
   pub replaced : (link : LinkSeal) (computer : List ℕ) (seals : ChannelSeals) → stands link seals ≡ false → belongs (Some link) (Some computer) seals ≡ false
   pub own : (link : LinkSeal) (computer : List ℕ) (seals : ChannelSeals) → same_name computer link.computer ≡ true → stands link seals ≡ true →
       belongs (Some link) (Some computer) seals ≡ true
-  -- such a call is told so, whatever it asks, and changes nothing
+  -- a call that doesn't belong to its link is told to have no channel, whatever it asks, and changes nothing
   pub sealed : (c : JudgedCall) (at : CallPlace) (d : Desk) → owned_unsent false c at d ≡ refuse_unsent (asked_of c) judged.NoChannel d
   pub clear : (c : JudgedCall) (name : List ℕ) (now : ℕ) (line : Line) (d : TrustDesk) →
       answer_owned false c name now line d ≡ with_queues d.work.queues (desk d.table (refuse_asked (asked_of c) judged.NoChannel line d.work.work))
@@ -67,12 +67,13 @@ abbrev pub signed_range : (is_own : Bool) (range : Option (ℕ × ℕ)) → Opti
 signed_range false range = None
 signed_range true range = range
 
--- the channel's end refuses it
+-- whether the channel's end refuses a request
 abbrev pub is_refused : Option (ℕ × ℕ) → (bytes : List ℕ) (link : LinkSeal) (seals : ChannelSeals) → Bool
 is_refused None bytes link seals = true
 is_refused (Some range) bytes link seals = is_none (open_unit link bytes range.0 range.1 seals).bytes
 
--- it has no such trailer, the link's channel was replaced, its operation opens a channel, or the channel's end refuses
+-- whether a request closes its sealed link: it has no trailer with a signature, the link's channel was replaced, its
+-- operation opens a channel, or the channel's end refuses
 abbrev pub is_unopened : Option Trailer → (opnum : ℕ) (bytes : List ℕ) (link : LinkSeal) (seals : ChannelSeals) → Bool
 is_unopened trailer opnum bytes link seals =
     not (stands link seals) || (opens_channel opnum || is_refused (signed_range (is_own_trailer trailer) (range_of bytes)) bytes link seals)

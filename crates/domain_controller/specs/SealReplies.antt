@@ -29,7 +29,7 @@ use Rattle.domain_controller.specs.declared.state.Talk.{Talk}
 use Rattle.domain_controller.specs.declared.trusting.Parts.{Parts}
 use Rattle.domain_controller.specs.declared.trusting.TrustWork.{TrustWork}
 
--- A turn of that trust ends so, for a logon from a sealed link.
+-- A turn of a trust ends with a verdict, for a logon from a sealed link.
 pub record EndsFor (happens : Turning → Turned) (parts : Parts) (s : Sealing) : Type 0 where
   pub channel : Requester
   pub at : slice_get parts.work.queues.requesters parts.turn_of ≡ Some channel
@@ -42,7 +42,7 @@ pub record EndsFor (happens : Turning → Turned) (parts : Parts) (s : Sealing) 
 -- A logon from a sealed link that was asked of another controller is told to be answered as one from any other link,
 -- and its reply goes out, sealed, only where its link is open and its channel stands.
 pub record RepliesWhereItStands : Type 0 where
-  -- it waits there without a line
+  -- a logon from a sealed link waits without a line
   pub waits : (place trust : ℕ) (f : ForwardedState) (reply : ReplySeal) (line : Line) (requesters : List Requester) (w : TrustWork) (s : Sealing) (talk : Talk) →
       f.line ≡ Some line →
       (wait_sealed place trust f reply line requesters w s talk).0.0.queues.forwarded
@@ -55,7 +55,7 @@ pub record RepliesWhereItStands : Type 0 where
       seal_on_turn happens parts s ≡ (on_turn happens parts, without_asked (parts.turn_of, is.place) s)
   pub closed : (happens : Turning → Turned) (parts : Parts) (s : Sealing) (is : EndsFor happens parts s) → is.call.call.line ≡ None →
       seal_on_turn happens parts s ≡ (on_turn happens parts, without_asked (parts.turn_of, is.place) s)
-  -- else its reply stands behind that
+  -- where the link is open and the channel stands, the sealed reply stands behind what the turn did
   pub stood : (happens : Turning → Turned) (parts : Parts) (s : Sealing) (is : EndsFor happens parts s) (line : Line) (bytes : List ℕ) →
       is.call.call.line ≡ Some line → stands is.call.reply.link s.seals ≡ true →
       (seal_reply is.call.reply line (written_reply (forwarded_reply is.call.call is.verdict)) s.seals).bytes ≡ Some bytes →

@@ -96,7 +96,7 @@ abbrev pub unasked_sealed : ForwardedState → ReplySeal → Line → TrustWork 
 unasked_sealed f reply line w s talk =
     reply_sealed reply line (unasked_stub f) (record w { work = told_unasked w.work }) s talk
 
--- it waits without a line, and where its reply goes is kept with what seals it
+-- a logon from a sealed link waits without a line, and where its reply goes is kept with what seals it
 abbrev pub wait_sealed : (place trust : ℕ) → ForwardedState → ReplySeal → Line → List Requester → TrustWork → Sealing → Talk → SealedPart
 wait_sealed place trust f reply line requesters w s talk = (
   (wait_at place trust (call_without line.link f) requesters w, seal_asked (trust, place) (record { reply = reply; call = f }) s),
@@ -145,7 +145,7 @@ draw_confounder [] c link line talk name now d s = Err refused.Spent
 draw_confounder (confounder ∷ left) c link line talk name now d s =
     served_sealed (judge_sealed c link confounder line talk name now d s) left
 
--- ---- the same on a link that isn't sealed: as where nothing is sealed, unless the computer's channel seals
+-- ---- a call on a link that isn't sealed: served as where nothing is sealed, unless the computer's channel seals
 
 abbrev pub answer_owned : (is_own : Bool) → JudgedCall → List ℕ → ℕ → Line → TrustDesk → TrustDesk
 answer_owned true c name now line d = answer_trust_call c name now line d
@@ -202,8 +202,8 @@ seal_server name now number = record {
 
 -- ---- the answer to a logon that was asked for a sealed link
 
--- it goes out where its link is open and its channel stands, else to nobody. Where the numbers of the channel's end are
--- used up, the link is closed, whose number is given
+-- the answer goes out where its link is open and its channel stands, else to nobody. Where the numbers of the channel's
+-- end are used up, the link is closed, whose number is given
 abbrev pub answered_by : (bytes : Option (List ℕ)) → Line → TrustWork → Sealing → (TrustWork × Sealing) × Option ℕ
 answered_by None line w s = ((told (action.Close line.link close.BadAuthentication) w, s), Some line.link)
 answered_by (Some bytes) line w s = ((told (action.Send line.link bytes) w, s), None)

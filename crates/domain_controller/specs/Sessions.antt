@@ -27,7 +27,7 @@ use Rattle.domain_controller.specs.declared.state.Running.{Running}
 
 -- ---- the sessions behind a call
 
--- whether it passed, with status 0
+-- whether a call passed, with status 0
 abbrev pub is_done : Judged → Bool
 is_done (judged.Passed status) = status == 0
 is_done judged.Forwarded = false
@@ -98,7 +98,7 @@ abbrev pub HasSessions : List Session → Option Running → Type 0
 HasSessions sessions None = Unit {0}
 HasSessions sessions (Some running) = running.computers.sessions ≡ sessions
 
--- as many were judged as were heard, unless the controller has stopped then
+-- as many calls were judged as were heard, unless the controller has stopped then
 abbrev pub AreJudgedOnce : List JudgedCall → List Judged → Option Running → Type 0
 AreJudgedOnce calls told None = Unit {0}
 AreJudgedOnce calls told (Some running) = length told ≡ length calls

@@ -65,22 +65,22 @@ pub record StepsAlone : Type 0 where
 -- ---- what follows a link that was closed, or a dial's answer
 
 -- an action that closes no link
-abbrev pub IsQuiet : Action → Type 0
-IsQuiet (action.Close link cause) = ⊥
-IsQuiet (action.Keep bytes) = Unit {0}
-IsQuiet (action.Send link bytes) = Unit {0}
-IsQuiet (action.Dial peer) = Unit {0}
-IsQuiet (action.Told link outcome) = Unit {0}
-IsQuiet (action.Judged how) = Unit {0}
+abbrev pub ClosesNoLink : Action → Type 0
+ClosesNoLink (action.Close link cause) = ⊥
+ClosesNoLink (action.Keep bytes) = Unit {0}
+ClosesNoLink (action.Send link bytes) = Unit {0}
+ClosesNoLink (action.Dial peer) = Unit {0}
+ClosesNoLink (action.Told link outcome) = Unit {0}
+ClosesNoLink (action.Judged how) = Unit {0}
 
 pub record ClosesNone : Type 0 where
   pub made : (s : State) (what : Event) (now : ℕ) (left : List (List ℕ)) → is_made what ≡ true →
-      AllByRecursion IsQuiet (actions_of (trust_step_of s what now left))
+      AllByRecursion ClosesNoLink (actions_of (trust_step_of s what now left))
 
--- ---- events that such steps make come to an end
+-- ---- events that a controller's steps make come to an end
 
--- what such a step makes, and what is left to be made after it, is no more than what was left before it
-abbrev pub IsWithin : TrustPart → ℕ → Type 0
+-- what a step makes, and what is left to be made after it, is no more than `most`
+abbrev pub IsWithin : TrustPart → (most : ℕ) → Type 0
 IsWithin (Err why) most = Unit {0}
 IsWithin (Ok part) most =
     most_made_by part.value.parts.work.work.actions + trusting_weight (trusting_after part.value.parts) ≤ most

@@ -49,7 +49,8 @@ pub record AskInOrder (q : Queues) : Type 0 where
 abbrev pub NobodyWaits : List Requester → Type 0
 NobodyWaits requesters = AllByRecursion (λ (s : Requester). s.waiting ≡ []) requesters
 
--- Besides, each end that asks is of one of the table's trusts, and while no turn is out, nobody waits.
+-- A controller's queues are in order, each end that asks is of one of the table's trusts, and while no turn is out,
+-- nobody waits.
 pub record IsInOrder (s : State) : Type 0 where
   pub queues : AskInOrder s.trusting.queues
   pub trusts : length s.trusting.queues.requesters ≤ length s.table.trusts
@@ -69,7 +70,7 @@ abbrev pub count_if : Bool → ℕ
 count_if false = 0
 count_if true = 1
 
--- whether it is told that a logon is handed on
+-- whether an action tells that a logon is handed on
 abbrev pub forwards_in : Action → ℕ
 forwards_in (action.Close link cause) = 0
 forwards_in (action.Keep bytes) = 0

@@ -206,7 +206,7 @@ next_turn trusts now parts left = next_if (is_idle parts.dialling) trusts now pa
 abbrev pub first_trust_state : AccountTable → List ℕ → State
 first_trust_state table name = record (first_state table name) { trusting = first_trusting table name }
 
--- once it has stopped
+-- a controller that asks others, once it has stopped
 abbrev pub trust_halted : State → State
 trust_halted s = record s { running = None; trusting = no_trusting }
 

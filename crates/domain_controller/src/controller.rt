@@ -128,26 +128,27 @@ impl Controller {
         ensures answer { StepsBy result
             (seal_step_of self.old event.now now (Q.drawing chances.old).left)
             (trust_halted self.old) self.new (Q.drawing chances.old) (Q.drawing chances.new) }
-        // One that can't seal steps as if none could, and stays one.
+        // A controller that can't seal steps as if none could, and stays one.
         ensures plain { self.old.trusting.sealing ≡ None → StepsBy result
             (trust_step_of self.old event.now now (Q.drawing chances.old).left)
             (trust_halted self.old) self.new (Q.drawing chances.old) (Q.drawing chances.new) }
         ensures stays_plain { self.old.trusting.sealing ≡ None → self.new.trusting.sealing ≡ None }
-        // It answers `Stopped` exactly where it had stopped, and a step that isn't taken stops it.
+        // The controller answers `Stopped` exactly where it had stopped, and a step that isn't taken stops it.
         ensures stopped { (result ≡ Err StepRefused.Stopped) ↔ IsTrue (is_stopped self.old) }
         ensures stops { OnErr result (self.new ≡ trust_halted self.old) }
         ensures goes_on { OnOk result (is_stopped self.new ≡ false) }
-        // One that can ask nobody steps as one that trusts no domain, and can ask nobody then.
+        // A controller that can ask nobody steps as one that trusts no domain, and can ask nobody then.
         ensures alone { self.old.trusting ≡ no_trusting → StepsBy result
             (step_of self.old event.now now (Q.drawing chances.old).left)
             (halted self.old) self.new (Q.drawing chances.old) (Q.drawing chances.new) }
         ensures asks_nobody { self.old.trusting ≡ no_trusting → self.new.trusting ≡ no_trusting }
-        // It does nothing then where a link was closed, and no turn draws a challenge.
+        // A controller that can ask nobody does nothing where a link was closed, and none of its turns draws a
+        // challenge.
         ensures quiet { self.old.trusting ≡ no_trusting →
             IfOk result (λ actions. is_made event.now ≡ true → actions ≡ []) }
         ensures few_alone { self.old.trusting ≡ no_trusting → length (Q.drawing chances.old).left
             ≤ length (Q.drawing chances.new).left + units_at event.now }
-        // Of the accounts it changes counts of bad passwords and hashes alone.
+        // A step changes of the accounts counts of bad passwords and hashes alone.
         ensures states { DifferInStates self.old.table self.new.table }
         // Events that a failed send or a dial makes come to an end.
         ensures settles { IfOk result (λ actions. IsTrue (is_made event.now) →
@@ -164,12 +165,12 @@ impl Controller {
         }
     }
 
-    /// What it keeps to seal is taken out. It takes no memory.
+    /// What the controller keeps to seal is taken out. It takes no memory.
     fn take_sealing(&mut self) -> Option<Sealing>
         ensures taken { result ≡ self.old.trusting.sealing }
         ensures left { self.new ≡ without_sealing self.old }
         ensures none { result ≡ None → self.new ≡ self.old }
-        // One that has stopped keeps nothing to seal.
+        // A controller that has stopped keeps nothing to seal.
         ensures stopped { is_stopped self.old ≡ true → result ≡ None }
     {
         take_sealing(&mut self.trusting)
@@ -237,21 +238,22 @@ impl Controller {
         ensures answer { StepsBy result
             (trust_step_of self.old event.now now (Q.drawing chances.old).left)
             (trust_halted self.old) self.new (Q.drawing chances.old) (Q.drawing chances.new) }
-        // It answers `Stopped` exactly where it had stopped, and a step that isn't taken stops it.
+        // The controller answers `Stopped` exactly where it had stopped, and a step that isn't taken stops it.
         ensures stopped { (result ≡ Err StepRefused.Stopped) ↔ IsTrue (is_stopped self.old) }
         ensures stops { OnErr result (self.new ≡ trust_halted self.old) }
         ensures goes_on { OnOk result (is_stopped self.new ≡ false) }
-        // One that can ask nobody steps as one that trusts no domain, and can ask nobody then.
+        // A controller that can ask nobody steps as one that trusts no domain, and can ask nobody then.
         ensures alone { self.old.trusting ≡ no_trusting → StepsBy result
             (step_of self.old event.now now (Q.drawing chances.old).left)
             (halted self.old) self.new (Q.drawing chances.old) (Q.drawing chances.new) }
         ensures asks_nobody { self.old.trusting ≡ no_trusting → self.new.trusting ≡ no_trusting }
-        // It does nothing then where a link was closed, and no turn draws a challenge.
+        // A controller that can ask nobody does nothing where a link was closed, and none of its turns draws a
+        // challenge.
         ensures quiet { self.old.trusting ≡ no_trusting →
             IfOk result (λ actions. is_made event.now ≡ true → actions ≡ []) }
         ensures few_alone { self.old.trusting ≡ no_trusting → length (Q.drawing chances.old).left
             ≤ length (Q.drawing chances.new).left + units_at event.now }
-        // Of the accounts it changes counts of bad passwords and hashes alone.
+        // A step changes of the accounts counts of bad passwords and hashes alone.
         ensures states { DifferInStates self.old.table self.new.table }
         // Events that a failed send or a dial makes come to an end.
         ensures settles { IfOk result (λ actions. IsTrue (is_made event.now) →
@@ -279,13 +281,13 @@ impl Controller {
         ensures answer { StepsBy result
             (trust_step_of self.old event.now now (Q.drawing chances.old).left)
             (trust_halted self.old) self.new (Q.drawing chances.old) (Q.drawing chances.new) }
-        // It answers `Stopped` exactly where it had stopped, and a step that isn't taken stops it.
+        // The controller answers `Stopped` exactly where it had stopped, and a step that isn't taken stops it.
         ensures stopped { (result ≡ Err StepRefused.Stopped) ↔ IsTrue (is_stopped self.old) }
         ensures stops { OnErr result (self.new ≡ trust_halted self.old) }
         ensures goes_on { OnOk result (is_stopped self.new ≡ false) }
         ensures few_alone { self.old.trusting ≡ no_trusting → length (Q.drawing chances.old).left
             ≤ length (Q.drawing chances.new).left + units_at event.now }
-        // Of the accounts it changes counts of bad passwords and hashes alone.
+        // A step changes of the accounts counts of bad passwords and hashes alone.
         ensures states { DifferInStates self.old.table self.new.table }
         // Events that a failed send or a dial makes come to an end.
         ensures settles { IfOk result (λ actions. IsTrue (is_made event.now) →
@@ -464,7 +466,7 @@ fn all_parts(alloc: Global, running: Running, trusting: Trusting) -> Parts
     }
 }
 
-/// Its actions, and what it keeps. It takes no memory.
+/// A step's actions, and what the controller keeps. It takes no memory.
 fn keep_apart(parts: Parts) -> (ShortActions, Running, Trusting)
     ensures { result ≡ (
       parts.work.work.actions,

@@ -156,7 +156,7 @@ pub(crate) fn forget_link(number: u32, work: TrustWork) -> TrustWork
     }
 }
 
-/// These logons, without the lines on the link of that number.
+/// The logons, without the lines on the link of that number.
 fn calls_without(number: u32, calls: ForwardedCalls) -> ForwardedCalls
     ensures { result ≡ calls_without number calls }
 {
@@ -183,7 +183,7 @@ fn find_call(calls: &[((usize, u32), ForwardedCall)], trust: usize, place: u32) 
     None
 }
 
-/// Whether it is that place at that trust.
+/// Whether `at` is that place at that trust.
 pub(crate) fn is_place(at: &(usize, u32), trust: usize, place: u32) -> bool
     ensures { result ≡ same_place (trust, place) at.now }
 {

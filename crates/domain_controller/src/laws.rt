@@ -52,9 +52,9 @@ pub fn other_channels_stay()
     ensures { KeepsOthers }
 {}
 
-/// Each channel that a controller keeps has a type: at first it keeps none, and each step leaves it so. What an
-/// accepted opening leaves has the type of its call (`kept_channels_have_kinds` of `controller_calls`). So it is at a
-/// controller that asks others too.
+/// Each channel that a controller keeps has a type: at first it keeps none, and behind each step each has one. What an
+/// accepted opening leaves has the type of its call (`kept_channels_have_kinds` of `controller_calls`). The channels of
+/// a controller that asks others have types, too.
 #[tactic(auto, using(crate::proofs::ChannelKindLaws::kept_have_kinds))]
 pub fn kept_channels_have_kinds()
     ensures { KeptHaveKinds }
@@ -71,8 +71,8 @@ pub fn counts_change_by_verdicts()
 
 /// A controller has no sessions at first. A step leaves those before it, to which each interactive logon that passed
 /// with status 0 added one, and from which each logoff that did took the first one of its computer, user and logon, in
-/// the order of the calls. A step that is taken tells once of each call on a channel that it heard. So it is at a
-/// controller that asks others too: what another controller's answer came to is told beside that.
+/// the order of the calls. A step that is taken tells once of each call on a channel that it heard. Both hold of a
+/// controller that asks others, too: what another controller's answer came to is told beside that.
 #[tactic(auto, using(crate::proofs::SessionLaws::sessions_follow))]
 pub fn sessions_follow_the_calls()
     ensures { SessionsFollowCalls }
@@ -86,7 +86,7 @@ pub fn hashes_stay_where_none_is_set()
 {}
 
 /// The text that a step keeps last is that of all accounts whose hash was set, as the step leaves them. Where it keeps
-/// none, that text is as it was. So it is at a controller that asks others too.
+/// none, that text is as it was. Both hold of a controller that asks others, too.
 #[tactic(auto, using(crate::proofs::KeepingLaws::keeps_secrets))]
 pub fn what_is_kept_stands()
     ensures { KeepsSecrets }
@@ -101,8 +101,8 @@ pub fn what_is_kept_is_read_again()
 {}
 
 /// A controller that can ask no controller of a trusted domain steps as one that trusts none: `trust_step_of` is
-/// `step_of`, and it stays so. Such a one is made by `Controller::new`, and over a table without trusted domains by
-/// `Controller::with_trusts` too.
+/// `step_of`, and it can ask none then. `Controller::new` makes one, and over a table without trusted domains
+/// `Controller::with_trusts` does too.
 #[tactic(auto, using(crate::proofs::TrustAloneLaws::steps_alone))]
 pub fn what_asks_nobody_steps_alone()
     ensures { StepsAlone }
@@ -136,8 +136,8 @@ pub fn what_is_closed_closes_none()
 /// 6, and there is room at that trust and in one call: then nothing is sent, the accounts stay, and the logon waits
 /// there, with the line, the level, the key and the credential of its answer. Where there is no room it is told as
 /// passed, and answered, with STATUS_NO_LOGON_SERVERS. Any other call comes to what it comes to where nobody is asked;
-/// where its authenticator isn't the channel's next one, it is told whether its computer has a channel. So is each such
-/// call answered that is heard on an accepted link, which stays open.
+/// where its authenticator isn't the channel's next one, it is told whether its computer has a channel. Each call on a
+/// channel that is heard on an accepted link is answered in this way, and the link stays open.
 #[tactic(auto, using(crate::proofs::HandOnLaws::forwards_by_trust))]
 pub fn a_logon_goes_by_its_domain()
     ensures { ForwardsByTrust }
@@ -149,23 +149,23 @@ pub fn one_logon_is_answered()
     ensures { AnswersOnce }
 {}
 
-/// One turn is out at a time, over all trusts: exactly while its dial waits or its link is open. So it is at first, and
-/// each step leaves it so.
+/// One turn is out at a time, over all trusts: exactly while its dial waits or its link is open. This holds at first,
+/// and through each step.
 #[tactic(auto, using(crate::proofs::TurnOutLaws::one_turn_out))]
 pub fn one_turn_is_out()
     ensures { OneTurnIsOut }
 {}
 
 /// Each link has a number of its own: no two accepted links have one, nor has one of them that of the link of the turn.
-/// So it is at first, and each step leaves it so.
+/// This holds at first, and through each step.
 #[tactic(auto, using(crate::proofs::ApartLaws::links_apart))]
 pub fn links_have_their_own_numbers()
     ensures { LinksAreApart }
 {}
 
 /// A logon that was asked of another controller is answered on the link on which it came, while that is open, and else
-/// nowhere: so it is at first, and each step leaves it so. Where a link opens no such logon is answered on it, also
-/// where the number was another link's: a reply never goes to a later link of that number.
+/// nowhere: this holds at first, and through each step. Where a link opens no such logon is answered on it, also where
+/// the number was another link's: a reply never goes to a later link of that number.
 #[tactic(auto, using(crate::proofs::LineLaws::answers_open))]
 pub fn replies_go_to_open_links()
     ensures { AnswersOpenLinks }
@@ -173,7 +173,7 @@ pub fn replies_go_to_open_links()
 
 /// The logons that a controller asked the controller of a trusted domain for are, in order, those that wait at the end
 /// that asks it, and no two have one place; a turn that is out is for the first of them, and while no turn is out,
-/// nobody waits. So it is at first, and each step leaves it so.
+/// nobody waits. All of this holds at first, and through each step.
 #[tactic(auto, using(crate::proofs::TrustOrderLaws::stays_in_order))]
 pub fn what_is_asked_waits()
     ensures { StaysInOrder }

@@ -174,7 +174,7 @@ pub(crate) fn unseal_link(number: u32, sealing: Sealing) -> Sealing
     }
 }
 
-/// These logons, without the lines on the link of that number.
+/// The logons, without the lines on the link of that number.
 fn asked_without(number: u32, asked: AskedCalls) -> AskedCalls
     ensures { result ≡ asked_without number asked }
 {

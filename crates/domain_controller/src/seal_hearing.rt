@@ -164,7 +164,7 @@ fn bind_with(
     }
 }
 
-/// Whether it is a trailer of Netlogon at the level at which stubs are sealed.
+/// Whether a trailer is one of Netlogon at the level at which stubs are sealed.
 fn is_own(trailer: &Trailer) -> bool
     ensures { result ≡ is_own_trailer (Some trailer.now) }
 {

@@ -46,7 +46,7 @@ pub(crate) fn serve_piece<Q: Chances>(
     ensures few { length (Q.drawing chances.old).left
         ≤ length (Q.drawing chances.new).left + units_in_piece (length piece.now) }
 {
-    // so that it is known that the link holds at most 5,839 bytes
+    // Reading the length makes it known that the link holds at most 5,839 bytes.
     let _held = link.rest_len();
     serve_units(
         alloc, table, changes, name, now, number, link, piece, work, chances,

@@ -132,7 +132,7 @@ fn account_there(alloc: Global, domain: &Name) -> Result<Units, NoMemory>
     ensures value { IfOk result (λ account. account ≡ account_there domain.now) }
     ensures short { IfOk result (λ account. length account ≤ 65) }
 {
-    // so that it is known that the name has at most 64 bytes
+    // Reading the bytes makes it known that the name has at most 64 bytes.
     let _short = domain.bytes();
     let mut units = domain.units(alloc)?.into_vec();
     units.push(0x24)?;

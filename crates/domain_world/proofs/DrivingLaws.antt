@@ -19,6 +19,6 @@ pub cut_short : (moves : List Move) (made : ℕ) (old at new : World) → at ≡
 cut_short moves made old at new is same had most =
     record { made = made; most = most; counted = same ∙ ap report_of is; outcomes = λ client. had client ∙ ap (λ w. outcome_of w client) is }
 
--- none of them was made
+-- a drive that made none of the moves
 pub not_begun : (moves : List Move) (old new : World) → new ≡ old → IsCutShort moves old new
 not_begun moves old new same = record { made = 0; most = omega arith; counted = ap report_of same; outcomes = λ client. ap (λ w. outcome_of w client) same }

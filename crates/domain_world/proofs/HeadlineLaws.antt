@@ -11,19 +11,19 @@ use Rattle.domain_world.specs.Headline.{Proved}
 use Rattle.domain_world.specs.Past.{past}
 use Rattle.domain_world.proofs.Apart.NeverApartLaws.{never_apart}
 use Rattle.domain_world.specs.Unforwarded.{IsProvedAlone}
-use Rattle.domain_world.proofs.Accepting.AnsweredRunLaws.{short_responses}
-use Rattle.domain_world.proofs.Accepting.Heard.MarkWholeLaws.{marked_whole}
-use Rattle.domain_world.proofs.Accepting.LetInLaws.{lets_in_who_asked}
-use Rattle.domain_world.proofs.Accepting.MarkRunLaws.{openings_marked, replies_marked}
+use Rattle.domain_world.proofs.Acceptance.AnsweredRunLaws.{short_responses}
+use Rattle.domain_world.proofs.Acceptance.Heard.MarkWholeLaws.{marked_whole}
+use Rattle.domain_world.proofs.Acceptance.LetInLaws.{lets_in_who_asked}
+use Rattle.domain_world.proofs.Acceptance.MarkRunLaws.{openings_marked, replies_marked}
 use Rattle.domain_world.proofs.Calls.CallMarkRunLaws.{calls_marked}
 use Rattle.domain_world.proofs.Calls.HaveCallRunLaws.{answers_have_calls}
 use Rattle.domain_world.proofs.Messages.ClientKeptLaws.{clients_written}
 use Rattle.domain_world.proofs.Messages.ClientMadeLaws.{messages_of_clients}
 use Rattle.domain_world.proofs.Messages.MessageMadeLaws.{messages_made}
 use Rattle.domain_world.proofs.Messages.MessageTakenLaws.{messages_taken}
-use Rattle.domain_world.proofs.Accepting.ScheduleLaws.{schedules_number, units_heard}
-use Rattle.domain_world.proofs.Accepting.ShortResponseLaws.{short_let_in}
-use Rattle.domain_world.proofs.Accepting.UnitLaws.{runs_heard}
+use Rattle.domain_world.proofs.Acceptance.ScheduleLaws.{schedules_number, units_heard}
+use Rattle.domain_world.proofs.Acceptance.ShortResponseLaws.{short_let_in}
+use Rattle.domain_world.proofs.Acceptance.UnitLaws.{runs_heard}
 use Rattle.domain_world.proofs.Messages.MessageApartLaws.{messages_apart}
 use Rattle.domain_world.proofs.Messages.MessageOnceLaws.{messages_once}
 use Rattle.domain_world.proofs.Challenges.OwnChallengeLaws.{messages_own}

@@ -1,8 +1,8 @@
 -- `Frames` carry a fact through all moves, `Moves` are facts of every run that others rest on. `Challenges` and
 -- `Messages`, `Calls`, `Quiet`, `Judgements` and `Sequences` are of what members and controllers say to each other.
--- `Accepting` joins them to the claims on answers, `Clear` and `Completeness` are of logons that come one at a time,
+-- `Acceptance` joins them to the claims on answers, `Clear` and `Completeness` are of logons that come one at a time,
 -- and `HeadlineLaws` gathers all.
-pub mod Accepting
+pub mod Acceptance
 pub mod Apart
 pub mod Calls
 pub mod Challenges

@@ -264,28 +264,29 @@ PassesTheNextCredential past = AreRightlyTold past.book.judgements past.book.jud
 
 -- ---- calls that are handed on
 
--- what a controller told, by how much each of it counts
-abbrev pub counts_by : (is_its : Bool) → ℕ → ℕ
+-- what a judgement counts for a controller: `count` if that controller told it, else 0
+abbrev pub counts_by : (is_its : Bool) (count : ℕ) → ℕ
 counts_by false count = 0
 counts_by true count = count
 
-abbrev pub told_count : (Judged → ℕ) → ℕ → List JudgementTold → ℕ
+-- what a controller told, by how much each judgement of it counts
+abbrev pub told_count : (counts : Judged → ℕ) (controller : ℕ) (told : List JudgementTold) → ℕ
 told_count counts controller [] = 0
 told_count counts controller (one ∷ told) =
     counts_by (one.controller == controller) (counts one.how) + told_count counts controller told
 
--- how many calls it handed on
+-- how many calls a judgement hands on: one, or none
 abbrev pub handed_count : Judged → ℕ
 handed_count how = count_if (is_forwarded how)
 
--- how many of them wait for their answers there
+-- how many calls wait for their answers at the controller that handed them on, if it is there
 abbrev pub waiting_count : Option ControllerState → ℕ
 waiting_count None = 0
 waiting_count (Some c) = length c.trusting.queues.forwarded
 
--- What controllers tell besides is how calls came out that they handed on (`judges_call`): each once at most, while it
--- waits, and of no call that it didn't hand on. At each controller as many were handed on at least as came out or wait
--- yet. (One that is made anew forgets those that wait.)
+-- What controllers tell besides is that calls came out which they handed on (`judges_call`). At each controller as many
+-- were handed on at least as came out or wait yet; of which call each was told isn't said. (A controller that is made
+-- anew forgets those that wait.)
 abbrev pub TellsOfForwards : Past → Type 0
 TellsOfForwards past =
     (controller : ℕ) →

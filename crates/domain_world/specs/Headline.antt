@@ -58,7 +58,8 @@ pub record Proved (plan : Plan) (moves : List Move) : Type 0 where
   pub apart : NothingSeals plan → MessagesAreApart (past plan moves)
   -- which channels controllers accept and keep, and by which replies
   pub openings : NothingSeals plan → OpeningsAreInOrder (past plan moves)
-  -- of which types they are, and which calls are handed on by that; and which types members and controllers open
+  -- of which types channels are, and which calls are handed on by their channel's type; and which types members and
+  -- controllers open
   pub kinds : NothingSeals plan → KindsFollowOpenings (past plan moves)
   pub askers : NothingSeals plan → AskersNameTheirKind (past plan moves)
   pub opened_kinds : NothingSeals plan → IsJudgedAlone plan moves → IsSchedule plan moves → OpeningsNameTheirKind (past plan moves)

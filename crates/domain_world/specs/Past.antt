@@ -403,8 +403,8 @@ note_hand None back bytes at s b = b
 note_hand (Some link) back bytes at s b =
     note_pieces (record { at = at; source = Outside; link = link; back = back }) (bytes ∷ []) s b
 
--- after so many moves
-abbrev pub note_coming : Move → ℕ → State → Book → Book
+-- what is written down of the bytes that come in a move, after `at` moves
+abbrev pub note_coming : Move → (at : ℕ) → State → Book → Book
 note_coming move.Onward at s b = note_onward (first_waiting s.bag) at s b
 note_coming (move.Deliver unit link) at s b = note_deliver (chosen_place unit (length s.bag)) link at s b
 note_coming (move.Hand link back bytes) at s b = note_hand (chosen_in link (handed_links s.links)) back bytes at s b

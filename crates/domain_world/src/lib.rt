@@ -2,11 +2,11 @@
 //! what is proved of each run.
 #![tactic(auto)]
 
-mod answering;
+mod accepting;
 mod claims;
 mod driving;
 
-pub use answering::{
+pub use accepting::{
     answers_are_taken_in_turn, calls_are_judged_as_carried, calls_are_stamped,
     carried_calls_are_heard, draws_of_runs_differ, keys_are_found_as_made, marked_units_are_whole,
     messages_are_called, messages_are_made, messages_are_taken_as_sent, outcomes_are_read_back,

@@ -30,7 +30,7 @@ abbrev pub dial_failure_step : Small → Bool → List (List ℕ) → Stepped Sm
 dial_failure_step s true left = drawless_step s [] left
 dial_failure_step s false left = drawless_step (record s { waiting = s.waiting - 1 }) (Judged judged.Barred ∷ []) left
 
--- whether it is the end's own link
+-- whether a link is the end's own
 abbrev pub is_own : Option ℕ → ℕ → Bool
 is_own None link = false
 is_own (Some own) link = own == link

@@ -44,8 +44,8 @@ struct Memory {
 }
 
 impl Drop for Memory {
-    // As it would be derived: written out, it is one call wherever one is let go, which keeps the proofs of those
-    // places short.
+    // The drop that would be derived. Written out, it is one call wherever a value that holds a `Memory` is let go,
+    // which keeps the proofs of those places short.
     fn drop(self) {
         let Memory {
             port: _port,

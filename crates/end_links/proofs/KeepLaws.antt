@@ -127,7 +127,7 @@ module _ {W T : Type 0} (server : Server W T) (AreSuch : List ℕ → Type 0) (H
       from_then (served_units server cut.units work talk left) [] (served_cut server cut work talk left)
       (served_keeps server Opens Shuts among_keeps cut.units cut.refused [] work talk left (all, holds))
 
--- and through any unit
+-- what `Holds` says of a part is kept through any unit
 pub record StaysServing {W T : Type 0} (server : Server W T) (Holds : ServedPart W T → Type 0) : Type 0 where
   pub spent : (why : StepRefused) → Holds (Err why)
   pub unit : (bytes : List ℕ) (work : W) (talk : T) (left : List (List ℕ)) → Holds (comes_to work (Some talk) left) →

@@ -26,7 +26,7 @@ IsShortSend (Close link cause) = Unit {0}
 IsShortSend (Told link outcome) = Unit {0}
 IsShortSend (Judged judged) = Unit {0}
 
--- each send among these actions has at most so many bytes
+-- each send among these actions is a short one (`IsShortSend`)
 abbrev pub AreShortSends : List Action → Type 0
 AreShortSends actions = AllByRecursion IsShortSend actions
 
@@ -51,8 +51,8 @@ pub record ServerDrawsFew {W T : Type 0} (server : Server W T) (extra : T → �
   pub refusal : (why : UnitRefused) (work : W) (talk : T) (left : List (List ℕ)) →
       length left ≤ length (left_by (server.refusal why work talk left))
 
--- the most units that a piece of so many bytes can end: the link's rest has at most 5,839 bytes, and a unit at least 16
-abbrev pub units_in_piece : ℕ → ℕ
+-- the most units that a piece of `count` bytes can end: the link's rest has at most 5,839 bytes, and a unit at least 16
+abbrev pub units_in_piece : (count : ℕ) → ℕ
 units_in_piece count = (rest_limit + count) / 16
 
 -- the most units that an event can end

@@ -70,7 +70,7 @@ pub fn serve_piece<W: ServesUnits<T>, T, Q: Chances>(
     ensures few { length (Q.drawing chances.old).left ≤ length (Q.drawing chances.new).left
         + units_in_piece (length piece.now) + W.extra link.talk }
 {
-    // so that it is known that the link holds at most 5,839 bytes
+    // Reading the length makes it known that the link holds at most 5,839 bytes.
     let _held = link.rest_len();
     serve_units(alloc, work, link, piece, chances)
 }

@@ -289,7 +289,7 @@ settled machine file actions queue later failed failed2 story story2 faults faul
     let most = performs_makes failed actions done.happened done.performs in
     omega (arith, most, ap length done.queue, length-append queue (made_events done.happened))
 
--- ---- the same, by the result of the call that performs the actions
+-- ---- an event's step, by the result of the call that performs the actions
 
 pub err_part : {T S : Type 0} (machine : Machine S) (file : Option (List ℕ)) (old new : S) (what : Event) (now : ℕ) (actions actions2 : List Action) (queue later : List Event) (story story2 : Option (List Happening)) (faults faults2 : ℕ) (moments moments2 : Option (List ℕ)) (drawing drawing2 : Drawing) (taken taken2 : Option (List ℕ)) (files files2 : FilesTold) (r : Result T Halt) →
     actions2 ≡ actions → Appends moments moments2 (now ∷ []) → Takes (machine.step old what now drawing.left) new drawing drawing2 actions → IfErr r IsOfActs →

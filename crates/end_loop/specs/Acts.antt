@@ -128,7 +128,7 @@ abbrev pub loop_of : {P S F : Type 0} → (P → Option (List Happening)) → (P
 loop_of story link_faults taken told port out files failed queue =
     record { failed = failed; queue = queue; story = story port; link_faults = link_faults port; taken = taken out; files = told files }
 
--- These actions were performed, in order, their lines put, and their texts written into the file of that name.
+-- `actions` were performed, in order, their lines put, and their texts written into the file of the name `file`.
 pub record Performed (line : Action → List ℕ) (file : Option (List ℕ)) (actions : List Action) (before after : LoopState) : Type 0 where
   pub happened : List Happening
   pub performs : Performs before.failed actions happened

@@ -66,8 +66,8 @@ IsOfSteps PortFault = ⊥
 IsOfSteps _ = Unit {0}
 
 -- Which event is stepped: the first that waits; where none waits and the end has no outcome, the one that `next` gave
--- while the end waited for its link, which isn't `Stop`. The last argument is the events that wait then.
-abbrev pub Chooses : {S : Type 0} → Machine S → S → List Event → Step → List Event → Type 0
+-- while the end waited for its link, which isn't `Stop`. `waiting` is the events that wait then.
+abbrev pub Chooses : {S : Type 0} → Machine S → S → List Event → Step → (waiting : List Event) → Type 0
 Chooses machine state [] step waiting =
     (machine.is_over state ≡ false) × (step.asked ≡ happening.Given step.event (machine.want state) ∷ [])
     × (is_stop step.event ≡ false) × (waiting ≡ [])

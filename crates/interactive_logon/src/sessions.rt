@@ -154,7 +154,7 @@ fn place(list: &[Session], computer: &[u16], user: &[u16], logon_id: u64) -> Opt
         .position(|session| is_session(session, computer, user, logon_id))
 }
 
-/// Whether it is the session of that computer, user and logon, names in any case.
+/// Whether a session is that of the computer, user and logon, names in any case.
 fn is_session(session: &Session, computer: &[u16], user: &[u16], logon_id: u64) -> bool
     ensures { result ≡ is_session computer.now user.now logon_id session.now }
 {

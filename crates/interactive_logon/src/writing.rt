@@ -87,7 +87,7 @@ pub fn write_interactive(
     requires { CanWriteInteractive opnum call.now }
     // The bytes of the written form.
     ensures exact { IfOk result (λ stub. stub ≡ written_interactive opnum call.now) }
-    // They have the layout of the call, and are read as it.
+    // The bytes have the layout of the call, and are read as it.
     ensures layout { IfOk result (λ stub. IsInteractive opnum stub call.now) }
     ensures again { IfOk result (λ stub. interactive_of opnum stub ≡ Ok call.now) }
 {

@@ -186,7 +186,7 @@ module _ (own : LinkState StationTalk) (piece : List ℕ) (plan : StationPlan) (
   abbrev course : Course
   course = course_by b.answer (call_in own.talk.step)
 
-  -- ---- it tells that the user is in
+  -- ---- the station tells that the user is in
 
   module _ (domain user key : List ℕ) where
     abbrev this : List (ℕ × Outcome)
@@ -233,7 +233,7 @@ module _ (own : LinkState StationTalk) (piece : List ℕ) (plan : StationPlan) (
         ∙ grant_tells logs.channel logs.authenticator logs.given logs.info logs.grants
         ∙ (λ i. (link, told.In (sym logs.domain_is i) (sym logs.user_is i) (sym logs.key_is i)) ∷ [])
 
-  -- ---- it ends with a status
+  -- ---- the station ends with a status
 
   module _ (status : ℕ) where
     refused_of_view : (r : Reply) → b.answer ≡ Replied r → (what : Course) → what.outcome ≡ Some (Refused status) → ReplyView (call_in own.talk.step) r link plan what → Refuses own piece status

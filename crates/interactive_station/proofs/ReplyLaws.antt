@@ -186,7 +186,7 @@ step_serves units why link left (Asked c) work = asked_serves units why link lef
 
 -- ---- what the answer comes to
 
--- the station did that, has that outcome, and stands so
+-- the station did what the course says, has its outcome, and stands as it says
 record Took (after : StationAfter) (plan : StationPlan) (course : Course) : Type 0 where
   pub actions : after.work.actions ≡ course.actions
   pub outcome : after.work.outcome ≡ course.outcome
@@ -407,19 +407,19 @@ units_step s running own piece now left runs none at =
 -- ---- events that bring no bytes on the link, and answer no dial by one
 
 -- nothing is done
-abbrev IsQuiet : Result (Part StationAfter) StepRefused → Type 0
-IsQuiet (Err why) = ⊥
-IsQuiet (Ok part) = part.value.work.actions ≡ []
+abbrev DoesNothing : Result (Part StationAfter) StepRefused → Type 0
+DoesNothing (Err why) = ⊥
+DoesNothing (Ok part) = part.value.work.actions ≡ []
 
-close_quiet : (is_own : Bool) (own : LinkState StationTalk) (plan : StationPlan) (now : ℕ) (left : List (List ℕ)) → IsQuiet (by_close is_own own (work_of plan now) left)
+close_quiet : (is_own : Bool) (own : LinkState StationTalk) (plan : StationPlan) (now : ℕ) (left : List (List ℕ)) → DoesNothing (by_close is_own own (work_of plan now) left)
 close_quiet false own plan now left = refl
 close_quiet true own plan now left = refl
 
-piece_quiet : (is_own : Bool) (piece : List ℕ) (own : LinkState StationTalk) (plan : StationPlan) (now : ℕ) (left : List (List ℕ)) → is_own ≡ false → IsQuiet (by_piece is_own piece own (work_of plan now) left)
+piece_quiet : (is_own : Bool) (piece : List ℕ) (own : LinkState StationTalk) (plan : StationPlan) (now : ℕ) (left : List (List ℕ)) → is_own ≡ false → DoesNothing (by_piece is_own piece own (work_of plan now) left)
 piece_quiet false piece own plan now left other = refl
 piece_quiet true piece own plan now left other = absurd cc
 
-event_quiet : (what : Event) (standing : StationLink) (plan : StationPlan) (now : ℕ) (left : List (List ℕ)) → is_heard what standing ≡ false → is_dialled what standing ≡ false → IsQuiet (by_event what standing (work_of plan now) left)
+event_quiet : (what : Event) (standing : StationLink) (plan : StationPlan) (now : ℕ) (left : List (List ℕ)) → is_heard what standing ≡ false → is_dialled what standing ≡ false → DoesNothing (by_event what standing (work_of plan now) left)
 event_quiet (event.Dialled link) (Dialling c) plan now left unheard undialled = absurd cc
 event_quiet (event.Dialled link) Idle plan now left unheard undialled = refl
 event_quiet (event.Dialled link) (On own) plan now left unheard undialled = refl
@@ -439,7 +439,7 @@ event_quiet event.Stop Idle plan now left unheard undialled = refl
 event_quiet event.Stop (Dialling c) plan now left unheard undialled = refl
 event_quiet event.Stop (On own) plan now left unheard undialled = refl
 
-quiet_answers : (s : StationState) (left : List (List ℕ)) (part : Result (Part StationAfter) StepRefused) → IsQuiet part → (step_by actions_after state_after (halted s) left part).answer ≡ Ok []
+quiet_answers : (s : StationState) (left : List (List ℕ)) (part : Result (Part StationAfter) StepRefused) → DoesNothing part → (step_by actions_after state_after (halted s) left part).answer ≡ Ok []
 quiet_answers s left (Err why) quiet = absurd quiet
 quiet_answers s left (Ok part) quiet = ap (λ (actions : List Action). Ok actions) quiet
 

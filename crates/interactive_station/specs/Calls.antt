@@ -26,7 +26,7 @@ abbrev pub logoff_on : SecureChannelState → ℕ → (domain user : List ℕ) �
 logoff_on o timestamp domain user =
     Logoff (after_call o timestamp) (authenticator_of (key_of_channel o) o.seed timestamp) domain user
 
--- ---- their stubs
+-- ---- the stubs of the calls
 
 -- An interactive logon or its logoff, with a returned authenticator of zeros and the logon id 0. There is no LM hash,
 -- which is zeros; the NT hash goes under RC4 with the session key, from its first key byte (MS-NRPC 2.2.1.1.4).

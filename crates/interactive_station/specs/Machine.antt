@@ -111,7 +111,7 @@ abbrev pub logoff_by_status : (is_status_0 : Bool) (status : ℕ) (domain user :
 logoff_by_status false status domain user link work = ends (Refused status) link work
 logoff_by_status true status domain user link work = ends (Off domain user) link work
 
--- it counts where the credential that it returns is the one awaited
+-- the reply to the Logoff counts where the credential that it returns is the one awaited
 abbrev pub logoff_by_return : (is_awaited_one : Bool) (status : ℕ) (domain user : List ℕ) (link : ℕ) → StationWork → StationWork
 logoff_by_return false status domain user link work = fails drop_cause.NotNext link work
 logoff_by_return true status domain user link work = logoff_by_status (status == 0) status domain user link work
@@ -339,7 +339,7 @@ abbrev pub held_by : Option StationRunning → ℕ
 held_by None = 0
 held_by (Some running) = held_on running.standing
 
--- its line is put where it tells that the user is in
+-- a station as a machine: the line of an action is put where it tells that the user is in
 abbrev pub station_machine : Machine StationState
 station_machine = record {
   step = step_of;

@@ -74,15 +74,15 @@ IsOutcomeAt (BadPeer cause) c = Unit {0}
 
 -- How a station stood before, how it stands then, with its outcome, and what was told.
 pub data Moves (before after : StationLink) (outcome : Option StationOutcome) (tolds : List (ℕ × Outcome)) : Type 0 where
-  -- it is at the same call
+  -- the station is at the call at which it was
   Stays : call_at after ≡ call_at before → outcome ≡ None → tolds ≡ [] → Moves before after outcome tolds
-  -- its first link opens, and its challenge is drawn
+  -- the station's first link opens, and the client's challenge is drawn
   Begins : (client : List ℕ) → before ≡ Dialling None → call_at after ≡ Some (Challenge client) → outcome ≡ None →
       tolds ≡ [] → Moves before after outcome tolds
-  -- the call that it is at is answered, and the next one is dialled for
+  -- the call that the station is at is answered, and the next one is dialled for
   GoesOn : (now next : StationCall) → call_at before ≡ Some now → after ≡ Dialling (Some next) →
       IsTrue (follows now next) → outcome ≡ None → IsToldBefore next (link_of before) tolds →
       Moves before after outcome tolds
-  -- it has its outcome, and no link
+  -- the station has its outcome, and no link
   Ends : (how : StationOutcome) → after ≡ Idle → outcome ≡ Some how → IsOutcomeAt how (call_at before) →
       tolds ≡ [] → Moves before after outcome tolds

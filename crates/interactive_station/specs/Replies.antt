@@ -141,7 +141,7 @@ abbrev pub limit_by : (is_accepted : Bool) (receive : ℕ) → Result ℕ DropCa
 limit_by true receive = Ok (limit_of receive)
 limit_by false receive = Err drop_cause.Bind
 
--- the same of any unit that has the number of the bind
+-- what a unit with the number of a bind says of it: the most bytes of a fragment, or the cause for which no reply comes
 abbrev pub bind_answer : Body → Result ℕ DropCause
 bind_answer (BindAck send receive group results) = limit_by (is_accepting results) receive
 bind_answer (BindNak reason) = Err drop_cause.Bind

@@ -85,7 +85,7 @@ bind_course c number link = record {
 -- How a call goes out, by the number of its bind, which that of its request follows, by its operation, and by the stub
 -- that it has of a plan.
 pub record GoesOut (c : StationCall) (number opnum : ℕ) (stub : StationPlan → List ℕ) : Type 0 where
-  -- its link opens
+  -- the link of the call opens
   pub bind : (s : StationState) (running : StationRunning) (link now : ℕ) (left : List (List ℕ)) → s.running ≡ Some running → s.outcome ≡ None →
       running.standing ≡ Dialling (Some c) → StepsAs (step_of s (event.Dialled link) now left) running.task (bind_course c number link)
   -- the bind is accepted, by a peer that takes fragments of at most that limit: the request goes out on context 0
@@ -113,7 +113,7 @@ pub record SendsItsCalls : Type 0 where
   -- at level 1, asking for validation of level 3
   pub logon : (o : SecureChannelState) (authenticator : Authenticator) → GoesOut (Logon o authenticator) 5 2
       (λ plan. written_interactive 2 (interactive_request plan o authenticator 3))
-  -- the same logon, and no validation
+  -- the Logoff carries the request of the logon, and asks for no validation
   pub logoff : (o : SecureChannelState) (authenticator : Authenticator) (domain user : List ℕ) → GoesOut (Logoff o authenticator domain user) 7 3
       (λ plan. written_interactive 3 (interactive_request plan o authenticator 0))
   -- where bytes bring no acceptance of a bind, nothing is sent

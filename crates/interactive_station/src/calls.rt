@@ -183,7 +183,7 @@ fn opening_stub(alloc: Global, call: &Call) -> Result<Blob, NoMemory>
     Ok(stub)
 }
 
-/// The stub of such a call is short enough for one send. It reads the bytes, so that this is known.
+/// The stub of a call that opens the channel is short enough for one send.
 #[tactic(auto, using(channel_client::proofs::StubLaws::stub_short))]
 fn read_opening(call: &Call, stub: &[u8])
     requires writable { CanWriteCall call.now }
@@ -205,7 +205,7 @@ fn interactive_stub(alloc: Global, opnum: u16, call: &InteractiveCall) -> Result
     Ok(stub)
 }
 
-/// The stub of such a call is short enough for one send. It reads the bytes, so that this is known.
+/// The stub of an interactive logon or its logoff is short enough for one send.
 #[tactic(auto, using(crate::proofs::StubLaws::interactive_short))]
 fn read_interactive(opnum: u16, call: &InteractiveCall, stub: &[u8])
     requires writable { CanWriteInteractive opnum call.now }

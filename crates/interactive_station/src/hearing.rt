@@ -126,7 +126,7 @@ fn is_accepting(results: &Results) -> bool
     }
 }
 
-/// A bind_ack of a peer that receives so many bytes.
+/// A bind_ack of a peer that receives `receive` bytes.
 fn hear_ack(
     alloc: Global,
     accepting: bool,

@@ -50,8 +50,8 @@ pub struct Task {
 }
 
 impl Drop for Task {
-    // As it would be derived. Written out, it is one call wherever a value that holds one is let go, which keeps the
-    // proofs of those places short.
+    // The drop that would be derived. Written out, it is one call wherever a value that holds a `Task` is let go, which
+    // keeps the proofs of those places short.
     fn drop(self) {
         let Task {
             plan: _plan,
@@ -81,7 +81,7 @@ impl Task {
         requires { CanStation plan }
         ensures { IfOk result (λ task. task ≡ plan) }
     {
-        // so that it is known that the name has at most 64 bytes
+        // Reading the bytes makes it known that the name has at most 64 bytes.
         let _short = plan.computer.bytes();
         let computer = plan.computer.units(alloc)?;
         let account = account_of(alloc, &plan.computer)?;
@@ -122,7 +122,7 @@ fn account_of(alloc: Global, computer: &Name) -> Result<Units, NoMemory>
     ensures value { IfOk result (λ account. account ≡ account_of computer.now) }
     ensures short { IfOk result (λ account. length account ≤ 65) }
 {
-    // so that it is known that the name has at most 64 bytes
+    // Reading the bytes makes it known that the name has at most 64 bytes.
     let _short = computer.bytes();
     let mut units = computer.units(alloc)?.into_vec();
     units.push(0x24)?;

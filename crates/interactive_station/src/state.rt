@@ -41,11 +41,12 @@ pub struct StationTalk {
 /// A station's link, as far as it has one.
 #[derive(Drop)]
 pub enum StationLink {
-    /// It has none: it hasn't begun, or it has its outcome.
+    /// The station has no link: it hasn't begun, or it has its outcome.
     Idle,
-    /// Its dial waits, for that call; none stands for the first of all, which is made once its challenge is drawn.
+    /// The station's dial waits, for that call; none stands for the first of all, which is made once its challenge is
+    /// drawn.
     Dialling(Option<StationCall>),
-    /// Its link is open.
+    /// The station's link is open.
     On(Link<StationTalk>),
 }
 

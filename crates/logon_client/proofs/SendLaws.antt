@@ -66,8 +66,8 @@ StandsAt Own Idle = Unit {0}
 StandsAt Own Dialling = Unit {0}
 StandsAt Own (On state) = Own state.talk.link
 
--- the client's link is such a link
-abbrev pub AtUnlessStopped : (ℕ → Type 0) → Option Running → Type 0
+-- `Own` holds of the client's link, unless the client has stopped
+abbrev pub AtUnlessStopped : (Own : ℕ → Type 0) → Option Running → Type 0
 AtUnlessStopped Own None = Unit {0}
 AtUnlessStopped Own (Some running) = StandsAt Own running.standing
 

@@ -27,7 +27,7 @@ drawn_refused why offer link work before after answer =
     AnswersBy-refused why (drawn_for (has_flag offer.flags negotiate_key_exch) before) (answers_part offer link work) after
     (λ drawn more. IsRest-refl more) answer
 
--- they were
+-- the challenges that an answer needs were drawn
 pub drawn_answered : (offer : ServerOffer) (link : ℕ) (work : Work) (drawn : Drawn) (before after : List (List ℕ)) →
     drawn_for (has_flag offer.flags negotiate_key_exch) before ≡ Ok (record { value = drawn; left = after }) →
     serve_heard (Challenged work link offer) before ≡ Ok (record { value = answers offer drawn link work; left = after })

@@ -96,7 +96,7 @@ lm_by V2 plan offer client = replicate 24 0
 abbrev pub with_base : ClientPlan → List ℕ → List ℕ → Responses
 with_base plan lm nt = record { lm = lm; nt = nt; base = base_key_of plan.hash plan.user plan.domain nt }
 
--- both responses, and the session base key
+-- both responses to an offer, and the session base key
 abbrev pub responses_of : ClientPlan → ServerOffer → List ℕ → Responses
 responses_of plan offer client =
     with_base plan (lm_by plan.auth plan offer client) (nt_by plan.auth plan offer client)
@@ -156,6 +156,6 @@ abbrev pub auth3_by : ℕ → Result (List ℕ) WriteRefused → Option (List �
 auth3_by level (Err why) = None
 auth3_by level (Ok message) = bytes_within (auth3_unit level message)
 
--- its bytes; none where the message doesn't fit into a unit
+-- the bytes of the unit that carries a message; none where the message doesn't fit into a unit
 abbrev pub auth3_of : ℕ → Authenticate → Option (List ℕ)
 auth3_of level message = auth3_by level (form_of (authenticate_fields message) (written_authenticate message))

@@ -66,7 +66,7 @@ abbrev pub KeysFound : Type 0
 KeysFound = (plan : ClientPlan) (offer : ServerOffer) (drawn : Drawn) → HasChosen (has_flag offer.flags negotiate_key_exch) drawn.chosen →
     KeyFound plan offer (answer_of plan offer drawn)
 
--- It fits into a unit, where the server's target information has at most 4,096 bytes.
+-- The answer fits into a unit, where the server's target information has at most 4,096 bytes.
 abbrev pub AnswersFit : Type 0
 AnswersFit = (plan : ClientPlan) (offer : ServerOffer) (drawn : Drawn) → CanLogOn plan → length offer.info ≤ 4096 →
     IsDrawn (has_flag offer.flags negotiate_key_exch) drawn →

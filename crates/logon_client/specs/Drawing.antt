@@ -83,7 +83,7 @@ unit_few (Ok unit) bytes talk work = call_few _ unit bytes talk work
 
 -- ---- what is drawn for it
 
--- so many are drawn, and no more are allowed later
+-- `count` challenges are drawn, and no more are allowed later
 count_few : (count before after most extra : ℕ) → before ≡ count + after → extra ≡ 0 → count ≤ 1 + most → before + extra ≤ after + 1 + most
 count_few count before after most extra is none few =
     subst (λ sum. before + extra ≤ sum) (add_comm (1 + most) after ∙ sym (add_assoc after 1 most))

@@ -10,8 +10,8 @@ use Rattle.logon_client.specs.Machine.{link_of, step_of}
 use Rattle.logon_client.specs.State.{State}
 use Rattle.logon_client.specs.declared.state.Running.{Running}
 
--- what is sent goes out on such a link
-abbrev pub IsSentAt : (ℕ → Type 0) → Action → Type 0
+-- what is sent goes out on a link of which `Own` holds
+abbrev pub IsSentAt : (Own : ℕ → Type 0) → Action → Type 0
 IsSentAt Own (action.Send link bytes) = Own link
 IsSentAt Own (action.Keep bytes) = Unit {0}
 IsSentAt Own (action.Dial peer) = Unit {0}

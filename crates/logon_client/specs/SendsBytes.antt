@@ -62,7 +62,7 @@ IsByteIfSent (action.Judged how) = Unit {0}
 -- ---- the law
 
 pub record ClientsSendBytes : Type 0 where
-  -- a client is so at first
+  -- a client is in its ranges at first
   pub first : (plan : ClientPlan) → CanLogOn plan → InRangeUnlessStopped (fresh_client plan).running
   pub sends : (s : State) (what : Event) (now : ℕ) (left : List (List ℕ)) → InRangeUnlessStopped s.running → InRangeEvent what left →
       AllByRecursion IsByteIfSent (actions_of (step_of s what now left))

@@ -27,8 +27,8 @@ pub struct Client {
 }
 
 impl Drop for Client {
-    // As it would be derived. Written out, it is one call wherever a value that holds one is let go, which keeps the
-    // proofs of those places short.
+    // The drop that would be derived. Written out, it is one call wherever a value that holds a `Client` is let go,
+    // which keeps the proofs of those places short.
     fn drop(self) {
         let Client {
             running: _running,
@@ -100,7 +100,7 @@ impl Client {
             (halted self.old) self.new (Q.drawing chances.old) (Q.drawing chances.new) }
         // An outcome stays, whatever comes.
         ensures stays { IsSome self.old.outcome → self.new.outcome ≡ self.old.outcome }
-        // It answers `Stopped` exactly where it had stopped, and a step that isn't taken stops it.
+        // The client answers `Stopped` exactly where it had stopped, and a step that isn't taken stops it.
         ensures stopped { (result ≡ Err StepRefused.Stopped) ↔ (self.old.running ≡ None) }
         ensures stops { OnErr result (self.new ≡ halted self.old) }
         ensures goes_on { OnOk result (IsSome self.new.running) }

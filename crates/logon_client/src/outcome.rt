@@ -6,7 +6,7 @@ use wire_base::Units;
 /// The outcome of a client (this project's own choice).
 #[derive(Debug, Drop)]
 pub enum ClientOutcome {
-    /// It is logged on: the name that the member tells, as units of UTF-16, the exported session key (MS-NLMP
+    /// The client is logged on: the name that the member tells, as units of UTF-16, the exported session key (MS-NLMP
     /// 3.1.5.1.2), and how many bytes came back.
     In {
         name: Units,

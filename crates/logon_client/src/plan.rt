@@ -79,8 +79,8 @@ pub struct Task {
 }
 
 impl Drop for Task {
-    // As it would be derived. Written out, it is one call wherever a value that holds one is let go, which keeps the
-    // proofs of those places short.
+    // The drop that would be derived. Written out, it is one call wherever a value that holds a `Task` is let go, which
+    // keeps the proofs of those places short.
     fn drop(self) {
         let Task { plan: _plan } = self;
     }

@@ -47,11 +47,11 @@ pub struct Talk {
 /// A client's link, as far as it has one.
 #[derive(Drop)]
 pub enum ClientLink {
-    /// It has none: it hasn't begun, or it has its outcome.
+    /// The client has no link: it hasn't begun, or it has its outcome.
     Idle,
-    /// Its dial waits.
+    /// The client's dial waits.
     Dialling,
-    /// Its link is open.
+    /// The client's link is open.
     On(Link<Talk>),
 }
 

@@ -101,7 +101,7 @@ computers_same one other is =
     (same_name-Decides one other).1 (last_same (upper_case one) (upper_case other) (upper_of 0x24)
     (sym (upper_last one 0x24) ∙ (same_name-Decides (machine_name one) (machine_name other)).0 is ∙ upper_last other 0x24))
 
--- both names are one account's
+-- two names of one account are one name
 both_named : (one other name : List ℕ) → same_name one name ≡ true → same_name other name ≡ true → same_name one other ≡ true
 both_named one other name first second = (same_name-Decides one other).1 ((same_name-Decides one name).0 first ∙ sym ((same_name-Decides other name).0 second))
 
@@ -200,7 +200,7 @@ module _ (table : AccountTable) (at : ℕ) (hash : List ℕ) where
       same ∙ user_by name channel computer (place_in table.accounts user) account set there
       (subst (λ (one : Option Account). IsSomeAnd one (λ (found : Account). found.kind ≡ User)) same is_user)
 
-  -- so it stays
+  -- a user's account stays as the hash of a machine's is set
   kept_at : (name : List ℕ) (channel : ℕ) (computer : List ℕ) (k : ℕ) (account : Account) → machine_in table.accounts name channel computer ≡ Some at → slice_get table.accounts k ≡ Some account →
       account.kind ≡ User → (at ≡ k) ⊎ (at ≢ k) → slice_get (at_place at (with_new_hash hash) table.accounts) k ≡ Some account
   kept_at name channel computer k account set there kind (inr apart) = other_place at k (with_new_hash hash) table.accounts apart ∙ there

@@ -535,8 +535,8 @@ progress_if true phase = progress_onward phase
 abbrev pub progress_after : {p : Arrival} → Move → LogonPhase p → Progress
 progress_after what phase = progress_if (is_onward what) phase
 
--- what a state comes to, where the logon is so far
-abbrev pub ComesSoFar : Arrival → Progress → State → Type 0
+-- what a state comes to, where the logon has come as far as `far`
+abbrev pub ComesSoFar : Arrival → (far : Progress) → State → Type 0
 ComesSoFar p far s = ((at : IsUnderWay p s) × (progress_of at.phase ≡ far)) ⊎ ((over : IsOver p s) × (WasTold over.asked ≡ far))
 
 -- at most three challenges were drawn, the first ones
@@ -553,7 +553,7 @@ pub record PhasesGoOn : Type 0 where
   -- each move leads to a phase, or to the end, where the client is in
   pub goes_on : (p : Arrival) (s : State) (what : Move) → IsKnown p → IsReady p s → IsStepOn what → (at : IsUnderWay p s) → HasUserAt p s at.phase what →
       ArrivesAt p at.phase what → ComesTo p (act s what).state
-  -- each move leads to a phase that is so far, or to the end
+  -- each move leads to a phase as far as `progress_after` says, or to the end
   pub goes_so_far : (p : Arrival) (s : State) (what : Move) → IsKnown p → IsReady p s → IsStepOn what → (at : IsUnderWay p s) → HasUserAt p s at.phase what →
       ArrivesAt p at.phase what → ComesSoFar p (progress_after what at.phase) (act s what).state
   -- each move draws few challenges

@@ -262,7 +262,7 @@ abbrev pub moved_by : List Move → State → State
 moved_by [] s = s
 moved_by (what ∷ moves) s = moved_by moves (act s what).state
 
--- challenges of 8 bytes are left for so many moves
+-- challenges of 8 bytes are left for `moves` moves
 pub record HasEnough (moves : ℕ) (left : List (List ℕ)) : Type 0 where
   pub many : 3 * moves ≤ length left
   pub blocks : AllByRecursion (λ (challenge : List ℕ). IsBlock 8 challenge) left

@@ -53,7 +53,7 @@ use Rattle.logon_steps.proofs.TrustServedLaws.{bind_beside, call_beside, line_at
 use Rattle.logon_steps.proofs.TurningLaws.{request_joins, request_sends, turn_bind_sends}
 
 module _ (k : Keeping) where
-  -- what it has as an event comes
+  -- what the controller has as an event comes
   abbrev pub parts_at : LinkMap → Parts
   parts_at links = parts_of (running k.computers links) (none_asked k.requesters k.turn)
 
@@ -77,7 +77,7 @@ module _ (k : Keeping) where
       (serve_on (if found then Some here else None) link piece k.name now (if found then [] else one_link link talk) k.table (parts_at (one_link link talk)) left)) (same link)
       ∙ ap₂ (λ (p : ServedPart TrustDesk Talk) (r : List ℕ). trust_stepped (one_link link talk) now left (after_units p r link [] (parts_at (one_link link talk)))) served rest
 
-  -- the same, with what is kept of those who ask
+  -- a step without trusts, with what is kept of those who ask
   abbrev carried : Stepped State → Stepped State
   carried done = record done { state = record done.state { trusting = none_asked k.requesters k.turn } }
 

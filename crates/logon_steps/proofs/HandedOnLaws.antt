@@ -160,7 +160,7 @@ module _ (h : HandedOn) where
   abbrev then_turn : ℕ → List (List ℕ) → Parts → Stepped State
   then_turn now left parts = stepped_to left (then_part (next_turn h.table.trusts now parts left) (λ later last. trust_part h.table later last))
 
-  -- nobody waits
+  -- where nobody waits, no next turn starts
   none_next : IsTrusted h → (how : Standing) (next now : ℕ) (actions : List Action) (left : List (List ℕ)) →
       then_turn now left (parts_by h.trust (rested how next) dialling.Nothing actions []) ≡ whole_step left left actions (handed_back h how next)
   none_next is how next now actions left =
@@ -168,7 +168,7 @@ module _ (h : HandedOn) where
       ap (λ (first : Option ℕ). stepped_to left (then_part (start_at first h.table.trusts now parts left) (λ later last. trust_part h.table later last)))
       (none_starts h.requesters h.trust (rested how next) is.nobody refl)
 
-  -- its next turn starts
+  -- the logon's next turn starts
   one_next : (is : IsTrusted h) (turn : ℕ) (how : Standing) (next now : ℕ) (actions : List Action) (left rest : List (List ℕ)) (turning : Turning) →
       next_dial now is.entry.address (turning_with (who how next None) dialling.Nothing actions) left ≡ Ok (record { value = turning; left = rest }) →
       next_turn h.table.trusts now (parts_by turn (who how next None) dialling.Nothing actions its_call) left
@@ -224,7 +224,7 @@ module _ (h : HandedOn) where
         queues = record { requesters = requesters; forwarded = if hit then [] else its_call };
       }) here
 
-  -- its turn ended, and that is the verdict
+  -- the logon's turn ended with a verdict, which goes back
   ends_turn : IsTrusted h → (how : Standing) (next now : ℕ) (first : List Action) (verdict : Verdict) (left : List (List ℕ)) →
       then_turn now left (record {
         work = answer_place (h.trust, h.place) verdict (work_with (rested how next) first its_call);
@@ -244,9 +244,9 @@ module _ (h : HandedOn) where
       })) (reply_told h.call.line (forwarded_reply h.call verdict) (judged.Answered (status_of verdict)) h.computers first)
       ∙ none_next is how next now (first ++ answer_sent (Some (verdict, h.call))) left
 
-  -- ---- a unit on the link of its turn
+  -- ---- a unit on the link of the logon's turn
 
-  -- what the channel makes of it, and the end of the turn
+  -- what the channel makes of a unit on the link of the logon's turn, and the end of the turn
   abbrev turned_by : ℕ → Requester → Taking → Turned
   turned_by link channel taking =
       after_piece link (after_turn (take_by taking None (record { link = link; channel = channel; actions = []; ended = None })) [])
@@ -334,7 +334,7 @@ handed_turns_step = record {
       ∙ ends_turn h is standing.Nothing next now [] (Status no_logon_servers) left;
 }
 
--- ---- how it comes
+-- ---- how a logon for a trusted domain comes
 
 module _ (g : Coming) (how : Standing) (comes : ComesForTrust g how) (now : ℕ) (left : List (List ℕ)) where
   abbrev given : Authenticator
@@ -366,7 +366,7 @@ module _ (g : Coming) (how : Standing) (comes : ComesForTrust g how) (now : ℕ)
   abbrev hands : Handing → Stepped State
   hands handing = comes_to (after_handing handing (line_of g) at_first.work.queues)
 
-  -- by the trust that is asked, where one is
+  -- what the controller comes to, by the trust that is asked, where one is
   abbrev asks_trust : Option ℕ → Stepped State
   asks_trust trust = hands (pass_or_hand trust what place g.caller.computer (key_of_channel g.heard_on)
       (return_of (key_of_channel g.heard_on) g.heard_on.seed g.timestamp) moved_on)

@@ -60,7 +60,7 @@ elsewhere link (dialling.Waits turn frames) piece work left is = refl
 elsewhere link (dialling.On other said) piece work left is =
     ap (λ (own : Bool). bytes_by own said link piece (dialling.On other said) work left) (ne_eqb other link is)
 
--- it is served as that unit
+-- the bytes of a unit on a member's link are served as that unit
 pub link_serves : (logons : Logons) (how : Dialling) (link now : ℕ) (talk : Talk) (bytes : List ℕ) (unit : RpcUnit) (left : List (List ℕ)) (part : ServedPart AtLink Talk) →
     IsElsewhere link how → unit_of bytes ≡ Ok unit → link_server.unit bytes (record { link = link; logons = logons; actions = [] }) talk left ≡ part →
     step_of (member_at logons (one_link link talk) how) (event.Bytes link bytes) now left ≡ stepped left now (after_units part [] link how (work_with logons []))

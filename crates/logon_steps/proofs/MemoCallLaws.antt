@@ -98,7 +98,7 @@ response_can number stub (Some trailer) below short blank = record {
   room = omega (arith, blank.0);
 }
 
--- ---- it is whole
+-- ---- a request is one whole unit
 
 request_whole : (number opnum : ℕ) (stub : List ℕ) (trailer : Option Trailer) → length stub ≤ one_unit_limit → answer_of None (request_at number opnum stub trailer) ≡ Ok (Some (request_at number opnum stub trailer))
 unfolding joined_of
@@ -230,7 +230,7 @@ joined_response : (number : ℕ) (stub : List ℕ) (trailer : Option Trailer) (t
 joined_response number stub trailer terms question link work short =
     ap (λ (a : Result (Option RpcUnit) JoinRefused). client.hear_joined a None terms question link work) (response_whole number stub trailer short)
 
--- it has the number that is waited for
+-- a unit that has the number that is waited for is heard
 awaited_heard : (unit : RpcUnit) (bytes : List ℕ) (number : ℕ) (terms : Terms) (question : Question) (link : ℕ) (work : ClientWork) → unit_of bytes ≡ Ok unit → unit.call ≡ number →
     client.awaited (client_phase.Asked terms question) ≡ number →
     client.hear bytes (client.talk_on link None (client_phase.Asked terms question)) work

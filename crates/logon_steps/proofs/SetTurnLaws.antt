@@ -90,7 +90,7 @@ set_reply_sends number r below is = record {
   room = omega arith;
 }
 
--- ---- they come in one piece each
+-- ---- the units of a turn come in one piece each
 
 pub set_comes : (number : ℕ) (c : SetCall) → IsSetTurn c → ComesAtOnce (bytes_of_call (set_request number c) 5840)
 set_comes number c is = record {

@@ -29,7 +29,7 @@ no_more : {W T : Type 0} (server : Server W T) (part : ServedPart W T) →
 no_more server (Err why) = refl
 no_more server (Ok part) = no_talk server part.value.0 part.value.1 part.left
 
--- it is served as that unit
+-- the bytes of a unit are served as that unit
 pub served_one : {W T : Type 0} (server : Server W T) (unit : RpcUnit) (work : W) (talk : T) (left : List (List ℕ)) → IsSendable unit →
     served_cut server (cut_stream (written unit)) work talk left ≡ server.unit (written unit) work talk left
 served_one server unit work talk left sends =

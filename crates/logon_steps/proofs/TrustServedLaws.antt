@@ -48,8 +48,8 @@ use Rattle.logon_steps.proofs.TurningLaws.{netlogon_heard, other_number, request
 
 -- ---- an accepted link
 
--- the line of a call of that number on it
-abbrev pub line_at : ℕ → ℕ → Line
+-- the line of a call of that number on an accepted link
+abbrev pub line_at : (link number : ℕ) → Line
 line_at link number = record { link = link; call = number; context = 0; limit = 5840 }
 
 pub bind_beside : (name : List ℕ) (now link number : ℕ) (d : TrustDesk) (left : List (List ℕ)) → number < 2 ^ 32 →
@@ -117,7 +117,7 @@ set_twice [] at one other = refl
 set_twice (first ∷ items) zero one other = refl
 set_twice (first ∷ items) (suc at) one other = ap (λ rest. first ∷ rest) (set_twice items at one other)
 
--- at one nobody waits
+-- a requester at which nobody waits can't start
 never_starts : (turn : Option Pending) (waiting : List Waiting) → waiting ≡ [] → can_start turn waiting ≡ false
 never_starts None [] none = refl
 never_starts None (logon ∷ logons) none = absurd (let x = none in cc)
@@ -132,7 +132,7 @@ nobody_starts (s ∷ requesters) none =
     ap (λ (hit : Bool). first_by hit (first_waiting requesters)) (never_starts s.turn s.waiting none.0)
     ∙ ap (λ (later : Option ℕ). first_by false later) (nobody_starts requesters none.1)
 
--- of all, this one alone can start
+-- where nobody waits at any requester, the one that is put in is the first that can start, if it can
 pub one_starts : (requesters : List Requester) (at : ℕ) (old new : Requester) → NobodyWaits requesters → slice_get requesters at ≡ Some old → starts new ≡ true →
     first_waiting (slice_set requesters at new) ≡ Some at
 one_starts [] at old new none is can = absurd (let x = is in cc)
@@ -141,7 +141,7 @@ one_starts (s ∷ requesters) (suc at) old new none is can =
     ap (λ (hit : Bool). first_by hit (first_waiting (slice_set requesters at new))) (never_starts s.turn s.waiting none.0)
     ∙ ap (λ (later : Option ℕ). first_by false later) (one_starts requesters at old new none.1 is can)
 
--- nobody waits once nobody waits at this one
+-- where nobody waits at any requester, nor at the one that is put in, none can start
 pub none_starts : (requesters : List Requester) (at : ℕ) (new : Requester) → NobodyWaits requesters → new.waiting ≡ [] →
     first_waiting (slice_set requesters at new) ≡ None
 none_starts requesters at new none is =

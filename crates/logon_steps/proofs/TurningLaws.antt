@@ -89,7 +89,7 @@ response_sends number q r below is = record {
   room = omega arith;
 }
 
--- ---- they come in one piece each
+-- ---- the units of a turn come in one piece each
 
 some_first : (most : ℕ) (unit : RpcUnit) (size : ℕ) (first : Bool) (stub : List ℕ) →
     (one : RpcUnit) × (others : List RpcUnit) × (fragments_of most unit size first stub ≡ one ∷ others)

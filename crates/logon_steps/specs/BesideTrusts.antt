@@ -46,8 +46,8 @@ none_asked requesters turn = record {
   sealing = None;
 }
 
--- What it keeps then, but for links: accounts, its name, what it keeps of computers, those who ask, and whose turn was
--- out last
+-- What a controller keeps that asks nobody, but for links: accounts, its name, what it keeps of computers, those who
+-- ask, and whose turn was out last
 pub record Keeping : Type 0 where
   pub table : AccountTable
   pub name : List ℕ
@@ -58,18 +58,18 @@ pub record Keeping : Type 0 where
 abbrev pub keeping_at : Keeping → LinkMap → State
 keeping_at k links = trusting_at k.table k.name k.computers links (none_asked k.requesters k.turn)
 
--- the same without trusts
+-- the controller that keeps the same without trusts
 abbrev pub alone_at : Keeping → LinkMap → State
 alone_at k links = controller_at k.table k.name k.computers links
 
--- with other accounts, and other computers
+-- what is kept, with other accounts and other computers
 abbrev pub kept_with : AccountTable → Computers → Keeping → Keeping
 kept_with table computers k = record k { table = table; computers = computers }
 
 -- ---- what stays here
 
 -- A logon is judged here, whichever channel it comes on: its domain isn't that of a trust whose controller can be
--- asked, or the channel is of a type on which nothing is handed on. Other calls are.
+-- asked, or the channel is of a type on which nothing is handed on. Every other call is judged here.
 abbrev pub StaysHere : Call → Keeping → Type 0
 StaysHere (call.Logon c) k =
     (computer : List ℕ) (channel : SecureChannelState) → c.computer ≡ Some computer → lookup same_name computer k.computers.channels ≡ Some channel →
@@ -93,7 +93,7 @@ pub record AnswersBesideTrusts : Type 0 where
       ≡ whole_step left rest actions (alone_at (kept_with table computers k) (turn_link link)) →
       trust_step_of (keeping_at k (turn_link link)) (event.Bytes link (bytes_of_call (turn_request number c) 5840)) now left
       ≡ whole_step left rest actions (keeping_at (kept_with table computers k) (turn_link link))
-  -- so does one that sets a secret
+  -- a call that sets a secret does what it does without trusts
   pub set : (k : Keeping) (link now number : ℕ) (c : SetCall) (left rest : List (List ℕ)) (actions : List Action) (table : AccountTable) (computers : Computers) →
       NobodyWaits k.requesters → number < 2 ^ 32 → IsSetTurn c →
       step_of (alone_at k (turn_link link)) (event.Bytes link (bytes_of_call (set_request number c) 5840)) now left

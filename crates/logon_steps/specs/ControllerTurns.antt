@@ -64,7 +64,7 @@ passed_reply key credential verdict = reply.Logon (record {
   status = status_of verdict;
 })
 
--- ---- its steps
+-- ---- the steps of the controller
 
 pub record ControllersStep : Type 0 where
   pub opened : (table : AccountTable) (name : List ℕ) (computers : Computers) (link now : ℕ) (left : List (List ℕ)) →

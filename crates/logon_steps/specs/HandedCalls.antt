@@ -44,16 +44,16 @@ pub record HandedCallsGo : Type 0 where
   -- a logon whose call could go here can go there, with its place there
   pub info : (place : ℕ) (info : NetworkInfo) → HasShortInfo info → place < 2 ^ 32 → HasShortInfo (info_at place info)
   pub fits : (info : NetworkInfo) → HasShortInfo info → fits_on info ≡ true
-  -- a key that is shown there is a key
+  -- a key that is shown under a channel's session key has 16 bytes again
   pub shown : (session key : List ℕ) → IsBlock 16 key → IsBlock 16 (crypt_key session key)
   -- the reply that goes back: what was granted there, its key hidden for the channel on which the logon came
   pub granted : (o : SecureChannelState) (timestamp : ℕ) (line : Line) (sam : SamInfo) →
       forwarded_reply (forwarded_call line level_asked (key_of_channel o) (return_of (key_of_channel o) o.seed timestamp)) (Granted sam)
       ≡ granting o timestamp 0 1 (record sam { key = crypt_key (key_of_channel o) sam.key })
-  -- it can go, where what was granted there can, and its texts are short
+  -- the reply to a logon that was granted can go back, where what was granted can be written, and its texts are short
   pub goes : (line : Line) (key credential : List ℕ) (sam : SamInfo) → IsBlock 8 credential → CanWriteSamInfo sam → HasShortTexts sam → InRangeSamInfo sam →
       IsTurnReply question.Logon (forwarded_reply (forwarded_call line level_asked key credential) (Granted sam))
-  -- or a status
+  -- the reply to a logon that was refused can go back, with its status
   pub refused : (f : ForwardedState) (status : ℕ) → f.validation ≡ level_asked → IsBlock 8 f.credential → status < 2 ^ 32 →
       IsTurnReply question.Logon (forwarded_reply f (Status status))
 
@@ -66,7 +66,8 @@ pub record IsTrustAccount (caller : Caller) (account : Account) : Type 0 where
   pub lists : lists_controller account caller.computer ≡ true
   pub channel : caller.kind ≡ trusted_domain_channel
 
--- it is there but for its count of bad passwords; who asks is known by it, and a channel that it opens is in step
+-- the account is there but for its count of bad passwords; who asks is known by it, and a channel that it opens is in
+-- step
 pub record IsTrustKnown (table : AccountTable) (caller : Caller) (client server : List ℕ) (account : Account) : Type 0 where
   pub count : ℕ
   pub knows : knows_in table.accounts caller.computer ≡ true
@@ -78,10 +79,10 @@ pub record TrustsAreKnown : Type 0 where
       knows_in table.accounts caller.computer ≡ true
   pub machine : (table : AccountTable) (caller : Caller) (client server : List ℕ) (account : Account) → account_in table.accounts caller.account ≡ Some account → IsTrustAccount caller account →
       account_for table (auth_value caller client server) ≡ Some account
-  -- also once it has judged logons, which changes counts of bad passwords alone
+  -- the account is known as well once its controller has judged logons, which changes counts of bad passwords alone
   pub later : (old new : AccountTable) (caller : Caller) (client server : List ℕ) (account : Account) → DifferInCounts old new → account_in old.accounts caller.account ≡ Some account →
       IsTrustAccount caller account → account.hash ≡ caller.secret → IsTrustKnown new caller client server account
-  -- the channel that it opens is a trust's, and a logon that comes on a trust's channel is judged there
+  -- the channel that the account opens is a trust's, and a logon that comes on a trust's channel is judged there
   pub opens : (caller : Caller) (client server : List ℕ) (account : Account) → caller.kind ≡ trusted_domain_channel →
       (channel_for account (pair_of client server) (auth_value caller client server)).kind ≡ Some trusted_domain_channel
   pub stays : (k : Keeping) (caller : Caller) (o c : SecureChannelState) (timestamp : ℕ) (info : NetworkInfo) → lookup same_name caller.computer k.computers.channels ≡ Some c →

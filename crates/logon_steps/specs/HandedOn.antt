@@ -72,8 +72,9 @@ pub record HandedOn : Type 0 where
   pub place : ℕ
   pub call : ForwardedState
 
--- its turn waits for the answer to its bind or call of that number; the next number, and the link of the turn
-abbrev pub handing_at : HandedOn → Standing → (next number : ℕ) → Step → Dialling → State
+-- the controller while the logon's turn waits for the answer to its bind or call of that number; `next` is the number
+-- of its next bind or call
+abbrev pub handing_at : HandedOn → (how : Standing) (next number : ℕ) → Step → (said : Dialling) → State
 handing_at h how next number what said = trusting_at h.table h.name h.computers h.links (record {
   queues = record {
     requesters = slice_set h.requesters h.trust
@@ -85,7 +86,7 @@ handing_at h how next number what said = trusting_at h.table h.name h.computers 
   sealing = None;
 })
 
--- once it was answered, nobody waits
+-- the controller once the logon was answered: nobody waits
 abbrev pub handed_back : HandedOn → Standing → (next : ℕ) → State
 handed_back h how next = trusting_at h.table h.name h.computers h.links
     (none_asked (slice_set h.requesters h.trust (at_rest h.caller how (after h.place) next)) h.trust)
@@ -122,14 +123,15 @@ pub record Coming : Type 0 where
   pub place : ℕ
   pub next : ℕ
 
--- it is answered on that line, under the channel's key and with the credential that is awaited
+-- the line on which the logon is answered
 abbrev pub line_of : Coming → Line
 line_of g = record { link = g.link; call = g.number; context = 0; limit = 5840 }
 
+-- what the logon's answer needs: its line, the channel's key, and the credential that is awaited
 abbrev pub call_of : Coming → ForwardedState
 call_of g = forwarded_call (line_of g) level_asked (key_of_channel g.asked_on) (return_of (key_of_channel g.asked_on) g.asked_on.seed g.timestamp)
 
--- the channel has moved on
+-- what is kept of computers once the channel on which the logon came has moved on
 abbrev pub computers_after : Coming → Computers
 computers_after g = record g.kept.computers {
   channels = put same_name g.caller.computer (moved g.heard_on g.timestamp) (take_out same_name g.caller.computer g.kept.computers.channels);
@@ -166,7 +168,7 @@ pub record ComesForTrust (g : Coming) (how : Standing) : Type 0 where
 abbrev pub coming_bytes : Coming → List ℕ
 coming_bytes g = bytes_of_call (turn_request g.number (logon_call g.caller g.asked_on g.timestamp g.info)) 5840
 
--- It is told to be handed on, nothing is sent, and the trust's controller is dialled for what its channel needs.
+-- The logon is told to be handed on, nothing is sent, and the trust's controller is dialled for what its channel needs.
 pub record LogonsAreHandedOn : Type 0 where
   pub opens : (g : Coming) (now : ℕ) (challenge : List ℕ) (left : List (List ℕ)) (comes : ComesForTrust g standing.Nothing) →
       trust_step_of (keeping_at g.kept (turn_link g.link)) (event.Bytes g.link (coming_bytes g)) now (challenge ∷ left)
@@ -182,7 +184,7 @@ pub record LogonsAreHandedOn : Type 0 where
       (handing_at (handed_of g) (standing.Open (after_call o (timestamp_of now))) (after g.next) g.next
       (step.Bind (logon_call g.asks o (timestamp_of now) (info_at g.place g.info))) (bind_waits g.next))
 
--- ---- its turns
+-- ---- the turns of a logon that is handed on
 
 pub record HandedTurnsStep : Type 0 where
   -- the dial is answered, and the bind goes out
@@ -200,24 +202,24 @@ pub record HandedTurnsStep : Type 0 where
       trust_step_of (handing_at h how next number (step.Reply q) (on_turn link)) (event.Bytes link (reply_bytes number r)) now left
       ≡ whole_step left left (action.Close link close.CallDone ∷ action.Dial is.entry.address ∷ [])
       (handing_at h (standing.Half client server) (after next) next (step.Bind (auth_call h.caller client server)) (bind_waits next))
-  -- or the channel stands, and the logon's own turn is dialled
+  -- the reply comes: the channel stands, and the logon's own turn is dialled
   pub opened : (h : HandedOn) (how : Standing) (next number link now : ℕ) (q : Question) (r : Reply) (o : SecureChannelState) (left : List (List ℕ)) (is : IsTrusted h) →
       number < 2 ^ 32 → IsTurnReply q r → judge q r how h.caller.secret ≡ judgement.Opened o →
       trust_step_of (handing_at h how next number (step.Reply q) (on_turn link)) (event.Bytes link (reply_bytes number r)) now left
       ≡ whole_step left left (action.Close link close.CallDone ∷ action.Dial is.entry.address ∷ [])
       (handing_at h (standing.Open (after_call o (timestamp_of now))) (after next) next
       (step.Bind (logon_call h.caller o (timestamp_of now) (info_at h.place h.info))) (bind_waits next))
-  -- or the verdict is there, which goes back; nobody waits then
+  -- the reply comes: the verdict is there, which goes back, and nobody waits then
   pub answered : (h : HandedOn) (how : Standing) (next number link now : ℕ) (q : Question) (r : Reply) (o : SecureChannelState) (verdict : Verdict) (left : List (List ℕ)) →
       IsTrusted h → number < 2 ^ 32 → IsTurnReply q r → judge q r how h.caller.secret ≡ judgement.Answer o verdict →
       trust_step_of (handing_at h how next number (step.Reply q) (on_turn link)) (event.Bytes link (reply_bytes number r)) now left
       ≡ whole_step left left (action.Close link close.CallDone ∷ answer_of (Some (verdict, h.call))) (handed_back h (standing.Open o) next)
-  -- or it is none that counts: the logon comes to NO_LOGON_SERVERS, and no channel stands
+  -- a reply comes that doesn't count: the logon comes to NO_LOGON_SERVERS, and no channel stands
   pub dropped : (h : HandedOn) (how : Standing) (next number link now : ℕ) (q : Question) (r : Reply) (cause : DropCause) (left : List (List ℕ)) →
       IsTrusted h → number < 2 ^ 32 → IsTurnReply q r → judge q r how h.caller.secret ≡ judgement.Drop cause →
       trust_step_of (handing_at h how next number (step.Reply q) (on_turn link)) (event.Bytes link (reply_bytes number r)) now left
       ≡ whole_step left left (action.Close link close.CallDone ∷ answer_of (Some (Status no_logon_servers, h.call))) (handed_back h standing.Nothing next)
-  -- so it does where nobody answers the dial, or the link closes
+  -- the logon comes to NO_LOGON_SERVERS, too, where nobody answers the dial, or the link closes; no channel stands
   pub failed : (h : HandedOn) (how : Standing) (next number now : ℕ) (what : Step) (left : List (List ℕ)) → IsTrusted h →
       trust_step_of (handing_at h how next number what (bind_waits number)) event.DialFailed now left
       ≡ whole_step left left (answer_of (Some (Status no_logon_servers, h.call))) (handed_back h standing.Nothing next)

@@ -79,7 +79,7 @@ bind_waits number = dialling.Waits tt (written (bind_of netlogon_syntax number) 
 abbrev pub IsNew : ℕ → List (ℕ × LinkState Talk) → Type 0
 IsNew link links = take_out same_number link links ≡ links
 
--- ---- its steps
+-- ---- the steps of the member
 
 pub record TurnsStep : Type 0 where
   -- a turn's dial is answered, whichever call the turn is for

@@ -21,8 +21,8 @@ use Rattle.member_server.specs.Requests.{answer_call, send_reply, talk_in, unit_
 use Rattle.member_server.specs.Work.{send, stay}
 
 -- the sessions of both ends: at the level without signatures the client has none, and the member's isn't used; else
--- both are in step, and each has sent fewer than so many units
-abbrev pub AreSessions : ℕ → ℕ → Option SessionState → Option SessionState → Type 0
+-- both are in step, and each has sent fewer units than `most`
+abbrev pub AreSessions : (most level : ℕ) → Option SessionState → Option SessionState → Type 0
 AreSessions most level None other = is_plain level ≡ true
 AreSessions most level (Some one) None = ⊥
 AreSessions most level (Some one) (Some other) =

@@ -98,7 +98,7 @@ module _ {E A T : Type 0} (told : NdrRefused → E) (layout : A → LayoutOf E T
       ∙ ap (behind front) (sym one)
       ∙ ap (behind front) (sym (at_drop_more (λ (rest : List A). rest_of rest cursor) list i none lt))
 
-  -- one of them is refused
+  -- one item of the list is refused
   pub each_refused : (list : List A) (i : ℕ) (none : A) (cursor : Cursor) (refused : E) (front : List T) → i < length list → reading_by told (layout (get_or list i none)) cursor ≡ Err refused → behind front (rest_of (drop i list) cursor) ≡ Err refused
   each_refused list i none cursor refused front lt here =
       let one : rest_of (get_or list i none ∷ drop (i + 1) list) cursor ≡ Err refused = rw here refl in

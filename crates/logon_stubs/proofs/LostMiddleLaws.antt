@@ -111,7 +111,7 @@ longer layout value front rest is = record {
 -- ---- a stub whose heads are known
 
 module _ (front rest : List ℕ) (are : AreBytes (front ++ rest)) (holds : HoldsHeads front) where
-  -- where they end
+  -- where the heads end
   heads_end : Cursor
   heads_end = record { stub = front ++ rest; place = 0 + length holds.begins.bytes }
 

@@ -58,7 +58,7 @@ account_locked_out = 0xC000_0234
 abbrev pub downgrade_detected : ℕ
 downgrade_detected = 0xC000_0388
 
--- all of them
+-- all statuses that replies carry
 abbrev pub statuses : List ℕ
 statuses = access_denied ∷ invalid_info_class ∷ no_logon_servers ∷ no_such_logon_session ∷ no_such_user ∷ wrong_password
     ∷ invalid_workstation ∷ password_expired ∷ account_disabled ∷ insufficient_resources ∷ no_such_domain ∷ no_trust_sam_account ∷ account_expired

@@ -65,7 +65,7 @@ sam_times = times 6 (part halves)
 unfoldable pub sam_heads : Layout (List Head)
 sam_heads = times 6 (part (head 2))
 
--- their targets, in the same order
+-- the texts that heads lead to, in the order of the heads
 unfoldable pub sam_texts : List Head → Layout (List (List ℕ))
 sam_texts heads = each (λ front. part (units front)) heads
 

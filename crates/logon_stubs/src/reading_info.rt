@@ -148,7 +148,7 @@ fn read_group(reader: &mut Reader<'_>) -> Result<(u32, u32), StubRefused>
     Ok((reader.long()?, reader.long()?))
 }
 
-/// That many groups.
+/// Groups, as many as `count`.
 #[tactic(auto, using(ndr_codec::proofs::TimesLaws::stepping))]
 fn read_groups(alloc: Global, reader: &mut Reader<'_>, count: u32) -> Result<Groups, StubRefused>
     ensures { Reads (groups count) result reader.old reader.new }

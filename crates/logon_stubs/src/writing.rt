@@ -220,7 +220,7 @@ pub fn write_call(alloc: Global, call: &Call) -> Result<Blob, NoMemory>
     requires { CanWriteCall call.now }
     // The bytes of the written form.
     ensures exact { IfOk result (λ stub. stub ≡ written_call call.now) }
-    // They have the layout of the call, and are read as it.
+    // The bytes have the layout of the call, and are read as it.
     ensures layout { IfOk result (λ stub. IsCall (opnum_of_call call.now) stub call.now) }
     ensures again { IfOk result (λ stub. call_of (opnum_of_call call.now) stub ≡ Ok call.now) }
 {
@@ -235,7 +235,7 @@ pub fn write_reply(alloc: Global, reply: &Reply) -> Result<Blob, NoMemory>
     requires { CanWriteReply reply.now }
     // The bytes of the written form.
     ensures exact { IfOk result (λ stub. stub ≡ written_reply reply.now) }
-    // They have the layout of the reply, and are read as it.
+    // The bytes have the layout of the reply, and are read as it.
     ensures layout { IfOk result (λ stub. IsReply (opnum_of_reply reply.now) stub reply.now) }
     ensures again { IfOk result (λ stub. reply_of (opnum_of_reply reply.now) stub ≡ Ok reply.now) }
 {

@@ -60,7 +60,7 @@ pub challenge_some : (message : Challenge) → 0 < length (written_challenge mes
 unfolding written_challenge
 challenge_some message = omega arith
 
--- its length is the same with another challenge as long
+-- what stands behind two challenges of one length leaves them of one length
 same_behind : (one other rest : List ℕ) → length one ≡ length other → length (one ++ rest) ≡ length (other ++ rest)
 same_behind one other rest same = omega (arith, length-append one rest, length-append other rest, same)
 
@@ -108,7 +108,7 @@ ack_short offer plan call receive contexts challenge eight fits =
     let blank = challenge_ack offer plan call receive contexts (replicate 8 0) in
     omega (arith, leb-true (length (written blank)) 5840 fits, ack_len offer plan call receive contexts challenge (replicate 8 0) eight)
 
--- ---- its length
+-- ---- the length of the answer to a bind
 
 answer_len : (same ndr : Bool) → length (written_answer (answer_by same ndr)) ≡ 24
 answer_len false ndr = refl

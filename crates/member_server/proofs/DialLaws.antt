@@ -80,7 +80,7 @@ comes_then old new doing is comes = record {
 }
 
 module _ (old : Requester) where
-  -- the channel comes so from the one before, and nothing is dialled
+  -- the channel comes from the one before without a turn that starts, and nothing is dialled
   abbrev Unstarted : Holds
   Unstarted l a = ComesUnstarted old l.channel × (dials_in a ≡ 0)
 

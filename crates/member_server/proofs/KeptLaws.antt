@@ -43,8 +43,8 @@ took_more (first ∷ units) unit c = took_more units unit (take_of c first).stat
 abbrev pub AreTold : Running → Event → Logons → List Action → Type 0
 AreTold running what l a = AllByRecursion (IsTold running what) a
 
--- besides, these units are still to come on the link of the turn, the channel took those before them, and the same
--- logons are kept as at first
+-- How far a piece is served: what is told was granted, `units` are still to come on the link of the turn, the channel
+-- took those before them, and the logons that are kept are those kept at first.
 pub record SoFar (running : Running) (what : Event) (units : List RpcUnit) (l : Logons) (a : List Action) : Type 0 where
   pub told : AreTold running what l a
   pub earlier : List RpcUnit

@@ -129,7 +129,7 @@ pub data BoundView (bytes : List ℕ) (joiner : Option RpcUnit) (at : AtLink) : 
       BoundView bytes joiner at (phase.Challenged bound challenge flags)
       (stay (with_logons at (with_logon (with_channel at.logons (asking_at at challenge flags message).state) place (logon_at at challenge flags message)))
       (record { joiner = joiner; phase = phase.Asked bound place [] }))
-  -- as many wait as may
+  -- as many logons wait as may
   Overflows : {bound : Bound} {challenge : List ℕ} {flags : ℕ} (message : Authenticate) → IsFitMessage bytes bound flags message →
       (asking_at at challenge flags message).answer ≡ Err ask_refused.QueueFull →
       BoundView bytes joiner at (phase.Challenged bound challenge flags)
@@ -238,7 +238,7 @@ module _ (bytes : List ℕ) (joiner : Option RpcUnit) (at : AtLink) where
       abbrev opened_on : LoggedOn
       opened_on = with_state on opened
 
-      -- what is sent for such an answer
+      -- what is sent for an answer
       abbrev pub Sends : RpcUnit → ℕ → ℕ → Answer → Type 0
       Sends unit call context a = (sent : List ℕ) (session : Option SessionState) → Replies call context opened_on a sent session → IsAnswered bytes joiner on unit sent session
 

@@ -16,9 +16,9 @@ use Rattle.member_server.specs.Outcomes.{end_found, end_logon, reach_in_map, rea
 pub data EndView (place : ℕ) (how : Ending) (work : Work) : Work → Type 0 where
   -- no logon of the place is kept, and nothing is told
   Unknown : lookup same_number place work.logons.asked ≡ None → EndView place how work (without_logon place work)
-  -- it is told, and no link waits for it
+  -- the outcome is told, and no link waits for it
   Tells : (logon : Logon) → lookup same_number place work.logons.asked ≡ Some logon → EndView place how work (tell_outcome how logon (without_logon place work))
-  -- it is told, and reaches the link that waits for it
+  -- the outcome is told, and reaches the link that waits for it
   Reaches : (logon : Logon) (link : LinkState Talk) (bound : Bound) (held : List (List ℕ)) → lookup same_number place work.logons.asked ≡ Some logon →
       lookup same_number logon.link work.links ≡ Some link → link.talk.phase ≡ phase.Asked bound place held →
       EndView place how work (reach_waiting (bound, held) link how logon (without_link logon.link (tell_outcome how logon (without_logon place work))))

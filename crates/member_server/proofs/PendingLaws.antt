@@ -86,8 +86,8 @@ abbrev pub HoldsNone : Option Talk → Type 0
 HoldsNone None = Unit {0}
 HoldsNone (Some talk) = held_in talk.phase ≡ 0
 
--- at most so many sends, and what logons need stays
-abbrev pub ServesWithin : Served → Logons → ℕ → Type 0
+-- at most `most` sends, and what logons need stays
+abbrev pub ServesWithin : Served → Logons → (most : ℕ) → Type 0
 ServesWithin s logons most = (most_made_by s.0.actions ≤ most) × (s.0.logons ≡ logons) × HoldsNone s.1
 
 weaker : (s : Served) (logons : Logons) (m n : ℕ) → m ≤ n → ServesWithin s logons m → ServesWithin s logons n

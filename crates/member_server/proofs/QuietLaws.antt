@@ -27,7 +27,7 @@ use Rattle.member_server.specs.declared.state.Running.{Running}
 use Rattle.member_server.specs.declared.state.Talk.{Talk}
 use Rattle.channel_turns.specs.declared.state.TurnEnd.TheVariants as turn_end
 use Rattle.member_server.specs.declared.state.Work.{Work}
-use Rattle.member_server.specs.Laws.{AreQuiet, AreRequests, ClosesNothing, HoldRequests, HoldsRequests, IsQuiet, IsRequestUnit}
+use Rattle.member_server.specs.Laws.{CloseNoLinks, AreRequests, ClosesNothing, HoldRequests, HoldsRequests, ClosesNoLink, IsRequestUnit}
 use Rattle.member_server.specs.Machine.{actions_in, event_part, halted_state, state_in, step_on}
 use Rattle.member_server.specs.Outcomes.{after_link, at_link, end_logon, keep_link, tell_outcome, without_link, without_logon}
 use Rattle.member_server.specs.Turns.{DialWork, keep_ended, lose_turn, with_requester}
@@ -37,7 +37,7 @@ use Rattle.member_server.proofs.LinkView.{BoundView, Closes, Faults, bound_view,
 use Rattle.member_server.proofs.OutcomeView.{EndView, Unknown, Tells, Reaches, end_view}
 use Rattle.member_server.proofs.StepFrame.{KeepsEvent, KeepsNext, PartHolds, WorkFact, part_keeps}
 
-told_quiet : (actions : List Action) (a : Action) → AreQuiet actions → IsQuiet a → AreQuiet (actions ++ a ∷ [])
+told_quiet : (actions : List Action) (a : Action) → CloseNoLinks actions → ClosesNoLink a → CloseNoLinks (actions ++ a ∷ [])
 told_quiet [] a all is = (is, tt)
 told_quiet (b ∷ actions) a all is = (all.0, told_quiet actions a all.1 is)
 
@@ -53,17 +53,17 @@ IsOutAfter None = Unit {0}
 IsOutAfter (Some talk) = IsOut talk.phase
 
 abbrev StaysOut : Served → Type 0
-StaysOut served = AreQuiet served.0.actions × IsOutAfter served.1
+StaysOut served = CloseNoLinks served.0.actions × IsOutAfter served.1
 
 out_quiet : (bytes : List ℕ) (joiner : Option RpcUnit) (at : AtLink) (bound : Bound) (status : ℕ) (served : Served) → BoundView bytes joiner at (phase.Out bound status) served →
-    IsRequestUnit (unit_of bytes) → AreQuiet at.actions → StaysOut served
+    IsRequestUnit (unit_of bytes) → CloseNoLinks at.actions → StaysOut served
 out_quiet bytes joiner at bound status served (Closes cause may) is quiet = absurd (may is)
 out_quiet bytes joiner at bound status served (Faults call context) is quiet = (
   told_quiet at.actions (action.Send at.link (written (fault_of call context status))) quiet tt,
   record { bound = bound; status = status; is = refl },
 )
 
-held_quiet : (units : List (List ℕ)) → AreRequests units → (at : AtLink) (talk : Talk) → AreQuiet at.actions → IsOut talk.phase → AreQuiet (serve_held units at talk).0.actions
+held_quiet : (units : List (List ℕ)) → AreRequests units → (at : AtLink) (talk : Talk) → CloseNoLinks at.actions → IsOut talk.phase → CloseNoLinks (serve_held units at talk).0.actions
 held_quiet units are at talk quiet out =
     (held_among (λ (bytes : List ℕ). IsRequestUnit (unit_of bytes)) StaysOut (λ bytes at talk is stays.
     let out : IsOut talk.phase = stays.1 in
@@ -83,11 +83,11 @@ pub there : (k : ℕ) (links : List (ℕ × LinkState Talk)) (link : LinkState T
 there k [] link all e = absurd (let x = e in cc)
 there k (entry ∷ links) link all e = there_by (has_key same_number k entry) entry (lookup same_number k links) link all.0 (there k links link all.1) e
 
-kept_quiet : (talk : Option Talk) (rest : List ℕ) (number : ℕ) (at : AtLink) (w : Work) → AreQuiet at.actions → AreQuiet (keep_link talk rest number (after_link at w)).actions
+kept_quiet : (talk : Option Talk) (rest : List ℕ) (number : ℕ) (at : AtLink) (w : Work) → CloseNoLinks at.actions → CloseNoLinks (keep_link talk rest number (after_link at w)).actions
 kept_quiet None rest number at w quiet = quiet
 kept_quiet (Some talk) rest number at w quiet = quiet
 
-end_quiet : (cause : DropCause) (place : ℕ) (w after : Work) → EndView place (ending.NoController cause) w after → HoldRequests w.links → AreQuiet w.actions → AreQuiet after.actions
+end_quiet : (cause : DropCause) (place : ℕ) (w after : Work) → EndView place (ending.NoController cause) w after → HoldRequests w.links → CloseNoLinks w.actions → CloseNoLinks after.actions
 end_quiet cause place w after (Unknown none) all quiet = quiet
 end_quiet cause place w after (Tells logon kept) all quiet = told_quiet w.actions (action.Told logon.link (outcome.NoController cause)) quiet tt
 end_quiet cause place w after (Reaches logon link bound held kept waits is) all quiet =
@@ -99,7 +99,7 @@ end_quiet cause place w after (Reaches logon link bound held kept waits is) all 
     (held_quiet held (subst HoldsRequests is (there logon.link w.links link all waits)) at talk
     (told_quiet w.actions (action.Told logon.link (outcome.NoController cause)) quiet tt) (record { bound = bound; status = rpc_s_server_unavailable; is = refl }))
 
-lost_quiet : (cause : DropCause) (w : Work) → HoldRequests w.links → AreQuiet w.actions → AreQuiet (lose_turn cause w).actions
+lost_quiet : (cause : DropCause) (w : Work) → HoldRequests w.links → CloseNoLinks w.actions → CloseNoLinks (lose_turn cause w).actions
 lost_quiet cause w all quiet =
     let losing = lose_of w.logons.channel in
     let after : Work = keep_ended (turn_end.Dropped losing.place cause) (with_requester w losing.state) in
@@ -108,10 +108,10 @@ lost_quiet cause w all quiet =
 -- ---- a step
 
 abbrev Quiet : WorkFact
-Quiet how w left = AreQuiet w.actions
+Quiet how w left = CloseNoLinks w.actions
 
 abbrev QuietBefore : WorkFact
-QuietBefore how w left = HoldRequests w.links × AreQuiet w.actions
+QuietBefore how w left = HoldRequests w.links × CloseNoLinks w.actions
 
 not_made : (what other : Event) → is_made what ≡ true → what ≡ other → is_made other ≡ false → ⊥
 not_made what other made is unmade = let never : true ≡ false = sym made ∙ ap is_made is ∙ unmade in cc
@@ -134,13 +134,13 @@ next_quiet now = record {
   starts = λ turn frames challenge how w before after can drawn is quiet. told_quiet w.actions (action.Dial w.logons.plan.controller) quiet tt;
 }
 
-step_quiet : (part : Result (Part DialWork) StepRefused) (left : List (List ℕ)) → PartHolds Quiet part → AreQuiet (actions_of (step_by actions_in state_in halted_state left part))
+step_quiet : (part : Result (Part DialWork) StepRefused) (left : List (List ℕ)) → PartHolds Quiet part → CloseNoLinks (actions_of (step_by actions_in state_in halted_state left part))
 step_quiet (Err why) left quiet = tt
 step_quiet (Ok part) left quiet = quiet
 
 pub closes_nothing : ClosesNothing
 closes_nothing = record {
   made = λ s running what now left runs all is.
-      subst (λ (r : Option Running). AreQuiet (actions_of (step_on r s what now left))) (sym runs)
+      subst (λ (r : Option Running). CloseNoLinks (actions_of (step_on r s what now left))) (sym runs)
       (step_quiet (event_part running what now left) left (part_keeps QuietBefore Quiet Quiet running what now left (event_quiet what is) (next_quiet now) (all, tt)));
 }

@@ -38,7 +38,7 @@ use Rattle.member_server.specs.Turns.{DialWork, ready_channel}
 use Rattle.member_server.proofs.PendingLaws.{MakesFew, can_weight, dialled_weight, event_few, made_told}
 use Rattle.member_server.proofs.StepFrame.{PartHolds, event_keeps}
 
--- ---- bytes on the link of the turn, and what comes as before
+-- ---- bytes on the link of the turn
 
 pub heard_done : (part : Result (Part SealedTurned) StepRefused) (work : Work) (turned : SealedTurned) (left : List (List ℕ)) →
     part ≡ Ok (record { value = turned; left = left }) → then_part part (after_sealed work) ≡ after_sealed work turned left
@@ -48,7 +48,7 @@ pub heard_refused : (why : StepRefused) (part : Result (Part SealedTurned) StepR
     AnswersBy (Err why) part left → AnswersBy (Err why) (then_part part (after_sealed work)) left
 heard_refused why part work left answer = AnswersBy-refused why part (after_sealed work) left (λ turned left. IsRest-refl left) answer
 
--- and then no memory was found
+-- what was heard is done, and then no memory was found
 pub heard_memory : (part : Result (Part SealedTurned) StepRefused) (work : Work) (turned : SealedTurned) (left : List (List ℕ)) →
     part ≡ Ok (record { value = turned; left = left }) → AnswersBy (Err Memory) (then_part part (after_sealed work)) left
 heard_memory part work turned left is = subst (λ p. IsRest (left_by p) left) (sym (heard_done part work turned left is)) (IsRest-refl left)
@@ -265,7 +265,7 @@ plain_members_stay = record {
   changed = λ s new. change_seals s.running s new refl;
 }
 
--- the same of what a step answers
+-- what a step answers where nothing seals
 pub plain_answer : (result : Result (List Action) StepRefused) (s new : State) (what : Event) (now : ℕ) (before after : Drawing) → sealing_in s ≡ None →
     StepsBy result (step_of s what now before.left) halted_state new before after → StepsBy result (any_step_of s what now before.left) halted_state new before after
 plain_answer result s new what now before after none steps =

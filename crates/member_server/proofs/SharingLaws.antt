@@ -93,7 +93,7 @@ pub bytes_unserved : (how : Dialling) (number : ℕ) (piece : List ℕ) (work : 
 bytes_unserved how number piece work left on =
     subst (λ p. IsRest (left_by p) left) (sym (bytes_shared how number piece work left on)) (IsRest-refl left)
 
--- another link
+-- bytes on another link than that of the turn
 pub bytes_off : (how : Dialling) (number : ℕ) (piece : List ℕ) (work : Work) (left : List (List ℕ)) → is_on number how ≡ false →
     bytes_on how number piece work left ≡ bytes_on_link (lookup same_number number work.links) number piece how work left
 bytes_off dialling.Nothing number piece work left off = refl

@@ -289,7 +289,7 @@ dial_stays Holds cut number talk how w left holds = of_part (served_by link_serv
     of_part (Err why) = tt
     of_part (Ok part) = holds
 
--- those on the link of the turn leave it on that link, or none is out
+-- units on the link of the turn leave a turn out on that link, or none
 pub dial_turns : (Holds : Dialling → Type 0) (cut : Cut) (number : ℕ) (talk : TurnTalk) (w : Work) (left : List (List ℕ)) →
     ((rest : List ℕ) (later : TurnTalk) → Holds (dialling.On number (record { rest = rest; talk = later }))) → Holds dialling.Nothing →
     PartHolds (λ how w left. Holds how) (serve_dialled cut number talk w left)

@@ -441,7 +441,7 @@ changed_tries None s new is tries = subst (λ (r : Option Running). TriesUnlessS
 changed_tries (Some running) s new is tries =
     begun_tries running.logons.plan.secrets.next running.logons.plan.secrets.current new running s refl is tries
 
--- ---- all of it
+-- ---- a member tries its secrets
 
 pub tries_its_secrets : TriesItsSecrets
 tries_its_secrets = record {

@@ -152,7 +152,7 @@ pub record DialWorkFits (First Second Third : ℕ → Type 0) (dial_work : DialW
 abbrev pub DialWorkPartFits : (ℕ → Type 0) → (ℕ → Type 0) → (ℕ → Type 0) → Result (Part DialWork) StepRefused → Type 0
 DialWorkPartFits First Second Third part = PartHolds (λ how w left. DialWorkFits First Second Third (w, how) × AreChallenges left) part
 
--- as an event comes
+-- work and dial as an event comes
 record Comes (First Second : ℕ → Type 0) (what : Event) (how : Dialling) (w : Work) (left : List (List ℕ)) : Type 0 where
   fits : WorkFits First Second w
   range : InRangeDialling how
@@ -422,7 +422,7 @@ caller_fits plan is = record {
   kind = omega arith;
 }
 
--- where each link is such a link, so is one that was accepted
+-- where `Such` holds of each link, it holds of one that was accepted
 pub accepted_such : (Such : ℕ → Type 0) (running : Running) (number : ℕ) → LinksAre (λ n link. Such n) running.links → IsAccepted running number → Such number
 accepted_such Such running number all is = there_are (λ n link. Such n) number running.links is.0 all is.1
 

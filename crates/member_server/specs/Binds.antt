@@ -88,7 +88,8 @@ abbrev pub ack_fits : Offer → MemberPlan → ℕ → ℕ → List (ℕ × Synt
 ack_fits offer plan call receive contexts =
     nat_le (length (written (challenge_ack offer plan call receive contexts (replicate 8 0)))) 5840
 
--- whether it fits, whatever is offered, and whichever the number of the bind and the size that its sender receives
+-- whether the answer to a bind fits, whatever is offered, and whichever the number of the bind and the size that its
+-- sender receives
 abbrev pub FitsEach : Bool → MemberPlan → List (ℕ × Syntax × List Syntax) → Type 0
 FitsEach fits plan contexts = (offer : Offer) (call receive : ℕ) → fits ≡ ack_fits offer plan call receive contexts
 

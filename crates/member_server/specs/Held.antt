@@ -6,6 +6,6 @@ use Rattle.std.specs.List.{sum_by}
 abbrev pub held_limit : ℕ
 held_limit = 65536
 
--- their bytes in all
+-- the bytes of the requests that are held, in all
 abbrev pub held_size : List (List ℕ) → ℕ
 held_size held = sum_by (λ (bytes : List ℕ). length bytes) held

@@ -78,8 +78,8 @@ BringsNoBytes (event.Dialled link) = Unit {0}
 BringsNoBytes event.DialFailed = Unit {0}
 BringsNoBytes event.Stop = Unit {0}
 
--- Secrets of 16 bytes stay such through each step, and each text that is kept is that of such. Where no bytes come, no
--- text is kept, and it is the same as before.
+-- Secrets of 16 bytes are of 16 bytes after each step, and each text that is kept is that of secrets of 16 bytes. Where
+-- no bytes come, no text is kept, and the text of the secrets stays as it was.
 pub record KeepsTextsOfSecrets : Type 0 where
   pub secrets : (s : State) (running : Running) (what : Event) (now : ℕ) (left : List (List ℕ)) → s.running ≡ Some running → AreSecrets running.logons.plan.secrets →
       HasSecretsUnlessStopped (step_of s what now left).state.running

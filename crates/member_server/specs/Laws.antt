@@ -100,7 +100,7 @@ IsRequestUnit (Ok unit) = IsRequestBody unit.body
 abbrev pub AreRequests : List (List ℕ) → Type 0
 AreRequests units = AllByRecursion (λ (bytes : List ℕ). IsRequestUnit (unit_of bytes)) units
 
--- what is held on a link that is so far are requests
+-- what is held on a link in a phase are requests
 abbrev pub HoldsRequests : Phase → Type 0
 HoldsRequests phase.Fresh = Unit {0}
 HoldsRequests (phase.Challenged bound challenge flags) = Unit {0}
@@ -113,17 +113,17 @@ abbrev pub HoldRequests : List (ℕ × LinkState Talk) → Type 0
 HoldRequests links = AllByRecursion (λ (entry : ℕ × LinkState Talk). HoldsRequests entry.1.talk.phase) links
 
 -- the action closes no link
-abbrev pub IsQuiet : Action → Type 0
-IsQuiet (action.Close link cause) = ⊥
-IsQuiet _ = Unit {0}
+abbrev pub ClosesNoLink : Action → Type 0
+ClosesNoLink (action.Close link cause) = ⊥
+ClosesNoLink _ = Unit {0}
 
-abbrev pub AreQuiet : List Action → Type 0
-AreQuiet actions = AllByRecursion IsQuiet actions
+abbrev pub CloseNoLinks : List Action → Type 0
+CloseNoLinks actions = AllByRecursion ClosesNoLink actions
 
 -- A step for a link that was closed, or for a dial's answer, closes no link, where what is held are requests.
 pub record ClosesNothing : Type 0 where
   pub made : (s : State) (running : Running) (what : Event) (now : ℕ) (left : List (List ℕ)) → s.running ≡ Some running →
-      HoldRequests running.links → is_made what ≡ true → AreQuiet (actions_of (step_of s what now left))
+      HoldRequests running.links → is_made what ≡ true → CloseNoLinks (actions_of (step_of s what now left))
 
 -- ---- what is held are requests, whatever comes
 
@@ -159,7 +159,7 @@ state_done (Starts timestamp challenge) c = (start_of c timestamp challenge).sta
 state_done (Takes unit) c = (take_of c unit).state
 state_done Loses c = (lose_of c).state
 
--- all of it, in order
+-- a requester behind all that is done, in order
 abbrev pub state_after : List Doing → Requester → Requester
 state_after [] c = c
 state_after (doing ∷ doings) c = state_after doings (state_done doing c)

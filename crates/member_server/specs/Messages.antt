@@ -58,8 +58,8 @@ with_channel logons channel = record logons { channel = channel }
 abbrev pub with_logon : Logons → ℕ → Logon → Logons
 with_logon logons place logon = record logons { asked = put same_number place logon logons.asked }
 
--- it waits; where as many wait as may, no controller will answer it. `Memory` is no answer of `ask_of`, and its line
--- says nothing
+-- a logon waits; where as many wait as may, no controller will answer it. `Memory` is no answer of `ask_of`, and its
+-- line says nothing
 abbrev pub wait_by : Result ℕ AskRefused → Logons → Logon → Bound → Option RpcUnit → AtLink → Served
 wait_by (Ok place) logons logon bound joiner at =
     stay (with_logons at (with_logon logons place logon)) (record { joiner = joiner; phase = phase.Asked bound place [] })

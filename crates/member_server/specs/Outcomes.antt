@@ -60,7 +60,7 @@ name_in info = info.domain ++ 0x5C ∷ info.effective_name
 abbrev pub exchange_in : SamInfo → Logon → List ℕ
 exchange_in info logon = exchange_key_of info.key logon.agreed logon.challenge logon.message.lm logon.message.nt
 
--- a key that isn't there doesn't come: a message with such a key isn't asked
+-- the exported session key where there is one, else the exchange key; a message without one isn't asked
 abbrev pub key_or : List ℕ → Option (List ℕ) → List ℕ
 key_or exchange None = exchange
 key_or exchange (Some key) = key

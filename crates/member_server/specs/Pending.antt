@@ -44,10 +44,11 @@ dial_weight (dialling.On number said) = 0
 abbrev pub channel_weight : Requester → ℕ
 channel_weight c = 2 * length c.waiting + start_weight (can_start c.turn c.waiting)
 
--- besides, one for each request that is held, and one for a dial that waits
+-- what is to come of a member's work: one for each request that is held, and what is to come of its channel
 abbrev pub work_weight : Work → ℕ
 work_weight work = held_on work.links + channel_weight work.logons.channel
 
+-- one more for a dial that waits than of the work
 abbrev pub dial_work_weight : DialWork → ℕ
 dial_work_weight dial_work = work_weight dial_work.0 + dial_weight dial_work.1
 

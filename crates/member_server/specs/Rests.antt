@@ -24,11 +24,11 @@ use Rattle.member_server.specs.Binds.{ack_fits, answer_bind, bind_by, fresh_unit
 use Rattle.member_server.specs.Turns.{turn_server}
 use Rattle.member_server.specs.Units.{bound_unit, first_unit, is_fresh, unit_by, link_server}
 
--- all of them
+-- all challenges are a rest
 pub all_left : (left : List (List ℕ)) → IsRest left left
 all_left left = record { front = []; is = refl }
 
--- all but the first
+-- all challenges but the first are a rest
 pub rest_left : (challenge : List ℕ) (left : List (List ℕ)) → IsRest left (challenge ∷ left)
 rest_left challenge left = record { front = challenge ∷ []; is = refl }
 

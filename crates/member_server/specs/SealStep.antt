@@ -56,7 +56,7 @@ sealing_in s = sealing_by s.running
 
 -- ---- a member whose channel seals: an event
 
--- such a member at work, with its dial, and whether the link of the turn is sealed
+-- a member at work whose channel seals, with its dial, and whether the link of the turn is sealed
 abbrev pub SealWork : Type 0
 SealWork = DialWork × Bool
 

@@ -71,7 +71,7 @@ keep_ended how work = record work {
 
 -- ---- all that follows of it
 
--- its link is closed, where it is open
+-- the link of a turn that ended is closed, where it is open
 abbrev pub close_ended : Option (ℕ × CloseCause) → Work → Work
 close_ended None work = work
 close_ended (Some closes) work = tell_at work (action.Close closes.0 closes.1)
@@ -119,7 +119,7 @@ TurnServed = AtTurn × Option TurnTalk
 abbrev pub with_work : AtTurn → Work → AtTurn
 with_work at work = record at { work = work }
 
--- its channel at work
+-- what a turn works on, at the link of a turn
 abbrev pub turn_work : AtTurn → TurnWork
 turn_work at = record { link = at.link; channel = at.work.logons.channel; actions = at.work.actions; ended = None }
 

@@ -152,7 +152,7 @@ pub record MembersSendWhole : Type 0 where
   -- no other link is accepted after the step
   pub accepts : (s : State) (running : Running) (what : Event) (now : ℕ) (left : List (List ℕ)) → s.running ≡ Some running →
       InRangeRunning running → InRangeEvent what left → AcceptedUnlessStopped running what (step_of s what now left).state.running
-  -- a step leaves the ranges so, and they are so at first
+  -- a step leaves what the member has in its ranges, and it is in them at first
   pub keeps : (s : State) (running : Running) (what : Event) (now : ℕ) (left : List (List ℕ)) → s.running ≡ Some running →
       InRangeRunning running → InRangeEvent what left → InRangeUnlessStopped (step_of s what now left).state.running
   pub first : (plan : MemberPlan) → IsName plan.computer → InRangeUnlessStopped (fresh_member plan).running

@@ -92,7 +92,7 @@ fn name_bytes(alloc: Global, name: &Name) -> Result<Blob, NoMemory>
     ensures even { IfOk result (λ bytes. length bytes % 2 ≡ 0) }
     ensures short { IfOk result (λ bytes. length bytes ≤ 128) }
 {
-    // so that it is known that the name has at most 64 bytes
+    // Reading the bytes makes it known that the name has at most 64 bytes.
     let _short = name.bytes();
     name.units(alloc)?.bytes(alloc)
 }
@@ -133,7 +133,7 @@ fn challenge_message(
     })
 }
 
-/// Its bytes.
+/// The bytes of the CHALLENGE.
 #[tactic(auto, using(crate::proofs::BindLaws::challenge_some))]
 fn challenge_bytes(
     alloc: Global,
@@ -254,7 +254,7 @@ fn ack_bytes(
     unit_bytes(alloc, &ack)
 }
 
-/// It is sent.
+/// Sends the answer to the bind.
 fn send_ack(
     alloc: Global,
     offer: Offer,

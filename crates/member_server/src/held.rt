@@ -63,7 +63,7 @@ impl Held {
         units
     }
 
-    /// Those that wait, and behind them a copy of this unit, for which there is room.
+    /// The requests that wait, and behind them a copy of this unit, for which there is room.
     #[tactic(auto, using(std::proofs::lemmas::List::Sums::sum_by_push))]
     pub(crate) fn hold(self, alloc: Global, bytes: &[u8]) -> Result<Held, NoMemory>
         requires { held_size self + length bytes.now ≤ held_limit }

@@ -23,7 +23,7 @@ impl SaysHeld for Talk {
     }
 }
 
-/// The bytes of requests that wait on a link that is so far.
+/// The bytes of requests that wait on a link in this phase.
 fn bytes_in(phase: &Phase) -> usize
     ensures count { result ≡ bytes_in phase.now }
     ensures most { result ≤ held_limit }

@@ -118,7 +118,7 @@ pub fn texts_are_of_secrets()
 
 /// A member opens its channel under the secret that is tried, from the turn on that asks for the server's challenge.
 /// While a turn is out that sets a secret there is a next one, and the call that waits for its bind hides it under the
-/// key of the channel. So it is at first, after each step, and after each change that begins.
+/// key of the channel. Both hold at first, after each step, and after each change that begins.
 #[tactic(auto, using(crate::proofs::TryingLaws::tries_its_secrets))]
 pub fn what_is_tried_opens()
     ensures { TriesItsSecrets }

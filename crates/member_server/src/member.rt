@@ -116,11 +116,11 @@ impl Member {
         ensures answer { StepsBy result
             (any_step_of self.old event.now now (Q.drawing chances.old).left)
             halted_state self.new (Q.drawing chances.old) (Q.drawing chances.new) }
-        // It answers `Stopped` exactly where it had stopped, and a step that isn't taken stops it.
+        // The member answers `Stopped` exactly where it had stopped, and a step that isn't taken stops it.
         ensures stopped { (result ≡ Err StepRefused.Stopped) ↔ IsTrue (is_stopped self.old) }
         ensures stops { OnErr result (self.new ≡ halted_state) }
         ensures goes_on { OnOk result (is_stopped self.new ≡ false) }
-        // One that seals nothing steps as one that can't seal, and seals nothing then.
+        // A member that seals nothing steps as one that can't seal, and seals nothing then.
         ensures plain { sealing_in self.old ≡ None → StepsBy result
             (step_of self.old event.now now (Q.drawing chances.old).left)
             halted_state self.new (Q.drawing chances.old) (Q.drawing chances.new) }
@@ -164,7 +164,7 @@ impl Member {
         ensures answer { StepsBy result
             (step_of self.old event.now now (Q.drawing chances.old).left)
             halted_state self.new (Q.drawing chances.old) (Q.drawing chances.new) }
-        // It answers `Stopped` exactly where it had stopped, and a step that isn't taken stops it.
+        // The member answers `Stopped` exactly where it had stopped, and a step that isn't taken stops it.
         ensures stopped { (result ≡ Err StepRefused.Stopped) ↔ IsTrue (is_stopped self.old) }
         ensures stops { OnErr result (self.new ≡ halted_state) }
         ensures goes_on { OnOk result (is_stopped self.new ≡ false) }
@@ -215,7 +215,7 @@ impl Member {
         ensures answer { StepsBy result
             (any_step_of self.old event.now now (Q.drawing chances.old).left)
             halted_state self.new (Q.drawing chances.old) (Q.drawing chances.new) }
-        // It answers `Stopped` exactly where it had stopped, and a step that isn't taken stops it.
+        // The member answers `Stopped` exactly where it had stopped, and a step that isn't taken stops it.
         ensures stopped { (result ≡ Err StepRefused.Stopped) ↔ IsTrue (is_stopped self.old) }
         ensures stops { OnErr result (self.new ≡ halted_state) }
         ensures goes_on { OnOk result (is_stopped self.new ≡ false) }
@@ -347,7 +347,7 @@ fn account_of(alloc: Global, computer: &Name) -> Result<Units, NoMemory>
     ensures value { IfOk result (λ account. account ≡ account_of computer.now) }
     ensures short { IfOk result (λ account. length account ≤ 65) }
 {
-    // so that it is known that the name has at most 64 bytes
+    // Reading the bytes makes it known that the name has at most 64 bytes.
     let _short = computer.bytes();
     let mut units = computer.units(alloc)?.into_vec();
     units.push(0x24)?;

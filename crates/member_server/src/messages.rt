@@ -138,7 +138,7 @@ fn wait_for(
     }
 }
 
-/// It waits at that place.
+/// The logon waits at that place.
 fn wait_at(
     alloc: Global,
     place: u32,
@@ -172,7 +172,7 @@ fn wait_at(
     }
 }
 
-/// As many wait as may, so that no controller will answer it.
+/// As many logons wait as may, so that no controller will answer this one.
 fn refuse_full(bound: Bound, joiner: Joiner, at: AtLink) -> Result<(AtLink, Option<Talk>), NoMemory>
     ensures { IfOk result (λ served. served
         ≡ stay (tell at (action.Told at.link (outcome.NoController drop_cause.QueueFull)))

@@ -134,7 +134,7 @@ fn is_waiting(links: &Links<Talk>, number: u32, place: u32) -> bool
     }
 }
 
-/// Whether a link that is so far waits for the logon of this place.
+/// Whether a link in this phase waits for the logon of this place.
 fn waits_at(phase: &Phase, place: u32) -> bool
     ensures { result ≡ is_some (waiting_at place phase.now) }
 {
@@ -184,7 +184,7 @@ fn reach_alone(
     ensures { IfOk result (λ turned. turned
         ≡ reach_alone (waiting_at place link.talk.phase) link how.now logon.now work) }
 {
-    // so that it is known that the link holds at most 5,839 bytes
+    // Reading the length makes it known that the link holds at most 5,839 bytes.
     let _short = link.rest_len();
     let (flow, talk) = link.parts();
     reach_talk(alloc, place, how, logon, flow, talk, work)

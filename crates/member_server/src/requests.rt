@@ -214,7 +214,7 @@ fn plain_reply(
     call_bytes(alloc, &unit, bound.binding.limit())
 }
 
-/// These bytes are sent on a link on which a user is logged on.
+/// Sends these bytes on a link on which a user is logged on.
 fn send_in(
     bytes: Blob,
     on: LoggedOn,

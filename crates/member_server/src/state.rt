@@ -82,8 +82,8 @@ pub struct Logons {
 }
 
 impl Drop for Logons {
-    // As it would be derived. Written out, it is one call wherever a value that holds one is let go, which keeps the
-    // proofs of those places short.
+    // The drop that would be derived. Written out, it is one call wherever a value that holds a `Logons` is let go,
+    // which keeps the proofs of those places short.
     fn drop(self) {
         let Logons {
             plan: _plan,

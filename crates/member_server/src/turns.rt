@@ -29,7 +29,7 @@ use wire_base::{List, NoMemory};
 
 // ---- what follows of a turn that ended
 
-/// How a logon ended that the controller judged so.
+/// How a logon ended on which the controller's verdict is this one.
 fn ending_of(verdict: Verdict) -> Ending
     ensures { result ≡ ending_of verdict }
 {
@@ -39,7 +39,7 @@ fn ending_of(verdict: Verdict) -> Ending
     }
 }
 
-/// The logon of that place ends so, and how it ended is let go.
+/// Ends the logon of that place as `how` says, which is let go.
 fn end_by(alloc: Global, place: u32, how: Ending, work: Work) -> Result<Work, NoMemory>
     ensures { IfOk result (λ ended. ended ≡ end_logon place how work) }
 {
@@ -187,7 +187,7 @@ fn apart(work: Work, dialling: Dialling) -> (Turning, Beside)
     (turning, Beside { plan, asked, links })
 }
 
-/// Both together again. It takes no memory.
+/// A turn and what stands beside it, together again. It takes no memory.
 fn together(turning: Turning, beside: Beside) -> (Work, Dialling)
     ensures { result ≡ (
       record {

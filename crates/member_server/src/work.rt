@@ -23,7 +23,7 @@ pub(crate) fn tell(at: AtLink, what: Action) -> Result<AtLink, NoMemory>
     Ok(at)
 }
 
-/// These bytes are sent on the link.
+/// Sends these bytes on the link.
 pub(crate) fn send(at: AtLink, bytes: Blob) -> Result<AtLink, NoMemory>
     requires { length bytes ≤ send_limit }
     ensures { IfOk result (λ told. told ≡ send at bytes) }
@@ -32,7 +32,7 @@ pub(crate) fn send(at: AtLink, bytes: Blob) -> Result<AtLink, NoMemory>
     tell(at, Action::Send(link, bytes))
 }
 
-/// This unit without a trailer, which is never too long, is sent on the link.
+/// Sends this unit without a trailer, which is never too long, on the link.
 pub(crate) fn send_unit(alloc: Global, at: AtLink, unit: &Unit) -> Result<AtLink, NoMemory>
     requires writable { IsWritable unit.now }
     requires plain { unit.now.trailer ≡ None }

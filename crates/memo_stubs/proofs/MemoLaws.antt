@@ -85,6 +85,6 @@ pub reply_stub : (bytes : List ℕ) → FitsEcho bytes → AreBytes bytes → Is
 unfolding written_echo_reply
 reply_stub bytes fits are = stub_of _ (λ begins. begins) (echo_reply_law bytes nothing fits are)
 
--- such a stub is read as its value
+-- a stub that begins with a value is read as that value
 pub stub_again : {T : Type 0} (layout : Layout T) (value : T) (size : ℕ) (stub : List ℕ) → IsStub (Begins layout value) size stub → parsed_by memo_refused (λ v. v) layout stub ≡ Ok value
 stub_again layout value size stub s = Begins-parsed layout stub s.are_bytes value s.is

@@ -103,7 +103,7 @@ pub fn read_echo_request(alloc: Global, stub: &[u8]) -> Result<Blob, MemoRefused
     ensures exact { UpToMemory MemoRefused.Memory result (echo_request_of stub.now) }
     // What is read lies in front of the stub by its layout.
     ensures found { IfOk result (λ bytes. Begins echo_request bytes stub.now) }
-    // It can be written again.
+    // What is read can be written again.
     ensures fits { IfOk result FitsEcho }
     // What lies there by the layout is read, unless memory runs out.
     ensures only { (bytes : List ℕ) → Begins echo_request bytes stub.now →
@@ -119,7 +119,7 @@ pub fn read_echo_reply(alloc: Global, stub: &[u8]) -> Result<Blob, MemoRefused>
     ensures exact { UpToMemory MemoRefused.Memory result (echo_reply_of stub.now) }
     // What is read lies in front of the stub by its layout.
     ensures found { IfOk result (λ bytes. Begins echo_reply bytes stub.now) }
-    // It can be written again.
+    // What is read can be written again.
     ensures fits { IfOk result FitsEcho }
     // What lies there by the layout is read, unless memory runs out.
     ensures only { (bytes : List ℕ) → Begins echo_reply bytes stub.now →

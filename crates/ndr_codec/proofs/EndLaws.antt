@@ -38,7 +38,7 @@ tested : {E A B : Type 0} (test : Bool) (why : E) (both : Reading B E) (layout :
 tested true why both layout rest cursor law = law
 tested false why both layout rest cursor law = refl
 
--- it is read as the one and then the other
+-- a layout that goes on with another is read as the one and then the other
 pub going_on_reads : {E A B : Type 0} (told : NdrRefused → E) (layout : LayoutOf E A) (rest : A → LayoutOf E B) (cursor : Cursor) →
     reading_by told (going_on layout rest) cursor ≡ read_on (reading_by told layout cursor) (λ x. reading_by told (rest x))
 going_on_reads told (item s) rest cursor = refl
@@ -118,7 +118,7 @@ ends_so {T = T} (done made) Is place value all law has =
 ends_so (only test refused layout) Is place value all law has = ends_so layout Is place value all (law has.0) has.1
 ends_so (placed layout) Is place value all law has = ends_so (layout place) Is place value all law has
 
--- what ends so ends as what follows from it
+-- where a layout ends as `Is` says, it ends as what follows from that says
 pub ends_more : {E T : Type 0} (layout : LayoutOf E T) (place : ℕ) (Is So : T → ℕ → Type 0) → ((value : T) (end : ℕ) → Is value end → So value end) → EndsSo layout place Is → EndsSo layout place So
 ends_more (item s) place Is So follows law = λ value. follows value (end_of s value place) (law value)
 ends_more (part layout) place Is So follows law = ends_more layout place Is So follows law

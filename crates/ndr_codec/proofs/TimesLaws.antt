@@ -34,7 +34,7 @@ times_step {E = E} {T = T} told layout count counter cursor next x front lt here
     ∙ ap (behind front) (sym one)
     ∙ ap (λ (n : ℕ). behind front (reading_by told (times n layout) cursor)) (sym e)
 
--- one of them is refused
+-- one of the repeated items is refused
 pub times_refused : {E T : Type 0} (told : NdrRefused → E) (layout : LayoutOf E T) (count counter : ℕ) (cursor : Cursor) (refused : E) (front : List T) → counter < count → reading_by told layout cursor ≡ Err refused → behind front (reading_by told (times (count - counter) layout) cursor) ≡ Err refused
 times_refused {E = E} {T = T} told layout count counter cursor refused front lt here =
     let e : count - counter ≡ suc (count - (counter + 1)) = omega arith in

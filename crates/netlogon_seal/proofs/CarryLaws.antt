@@ -278,7 +278,7 @@ repeated_refused s unit from to h within room taken =
     ∙ ap (λ u. (open_of after u from to).answer) (taken_was_sealed s unit from to h within taken)
     ∙ other_refused after s.received (not s.requester) plain confounder from to from to eight (omega arith) room (λ (same : (s.received ≡ s.received + 1) × (not s.requester ≡ not s.requester)). let e = same.0 in omega arith)
 
--- ---- both ends
+-- ---- both ends of a channel
 
 pub follows_after : (sender receiver : NlState) → Follows sender receiver → Follows (after_sending sender) (after_taking receiver)
 follows_after sender receiver f = record { key = f.key; sides = f.sides; numbers = ap (λ n. n + 1) f.numbers }
@@ -326,7 +326,7 @@ open_all-send_all sender receiver (p ∷ ps) f ranges room =
     ∙ ap (λ u. record { answer = Ok tt; plain = u } ∷ open_all (after_taking receiver) rest) (plain_again receiver (before_signature p.unit) p.confounder ranges.0.2)
     ∙ ap (λ xs. whole_opening p ∷ xs) (open_all-send_all (after_sending sender) (after_taking receiver) ps (follows_after sender receiver f) ranges.1 (omega arith))
 
--- the same of an answer that is known to be that of opening
+-- a unit is taken exactly where it is what was sealed, by an answer that is known to be that of opening
 pub accepts_by : (s : NlState) (unit : List ℕ) (from to : ℕ) (answer : Result Unit NlRefused) → from ≤ to → to + 32 ≤ length unit → answer ≡ (open_of s unit from to).answer → s.received < 2 ^ 32 - 1 → (answer ≡ Ok tt) ↔ (unit ≡ sealed_again s unit from to)
 accepts_by s unit from to answer h within e room =
     (λ taken. taken_was_sealed s unit from to h within (sym e ∙ taken), λ same. e ∙ sealed_is_taken s unit from to h within room same)

@@ -113,8 +113,8 @@ impl NlSeal {
         ensures answer { result ≡ (open_of self.old unit.old from to).answer }
         ensures unit { unit.new ≡ (open_of self.old unit.old from to).unit }
         ensures state { self.new ≡ (open_of self.old unit.old from to).state }
-        // It is taken exactly where it is what the other end seals, under the next number, of the bytes that are found
-        // in it.
+        // A unit is taken exactly where it is what the other end seals, under the next number, of the bytes that are
+        // found in it.
         ensures accepts { self.old.received < 2 ^ 32 - 1
             → ((result ≡ Ok tt) ↔ (unit.old ≡ sealed_again self.old unit.old from to)) }
     {

@@ -12,9 +12,9 @@ use crate::refusal::NlRefused;
 /// What one end seals the other opens to the same bytes, in order, in both directions.
 ///
 /// The two ends have one session key. One seals units, fewer than 2^32, and each has its range before its last 32
-/// bytes. The other opens them one after another: each is taken, and opened to what it was. It is so from the first
-/// unit on. It is so from any two ends of one key, too, where the one has opened as many units as the other sent. What
-/// goes the other way changes nothing of it.
+/// bytes. The other opens them one after another: each is taken, and opened to what it was. This holds from the first
+/// unit on, and from any two ends of one key on, where the one has opened as many units as the other sent. What goes
+/// the other way changes nothing of it.
 pub fn what_is_sealed_opens()
     ensures from_requester { (key : List ℕ) (units : List PlainUnit)
         → AllByRecursion HasRange units → length units < 2 ^ 32

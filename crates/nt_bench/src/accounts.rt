@@ -14,8 +14,8 @@ pub struct Accounts {
 }
 
 impl Drop for Accounts {
-    // As it would be derived: written out, it is one call wherever these are let go, which keeps the proofs of those
-    // places short.
+    // The drop that would be derived. Written out, it is one call wherever a value that holds an `Accounts` is let go,
+    // which keeps the proofs of those places short.
     fn drop(self) {
         let Accounts {
             text: _text,
@@ -38,7 +38,7 @@ impl Accounts {
         })
     }
 
-    /// The hash of the last account, of the table read so many times.
+    /// The hash of the last account, of the table read `turns` times.
     pub fn read_tables(&self, alloc: Global, turns: u32) -> anyhow::Result<Outcome> {
         let mut end = Outcome::new();
         for _ in 0..turns {
@@ -50,7 +50,7 @@ impl Accounts {
         Ok(end)
     }
 
-    /// The place of the last user, sought so many times.
+    /// The place of the last user, sought `turns` times.
     pub fn find_all(&self, turns: u32) -> Outcome {
         let mut place = u32::MAX;
         for _ in 0..turns {

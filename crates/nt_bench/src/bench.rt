@@ -34,8 +34,8 @@ pub struct Bench {
 }
 
 impl Drop for Bench {
-    // As it would be derived: written out, it is one call wherever one is let go, which keeps the proofs of those
-    // places short.
+    // The drop that would be derived. Written out, it is one call wherever a value that holds a `Bench` is let go,
+    // which keeps the proofs of those places short.
     fn drop(self) {
         let Bench {
             long: _long,

@@ -35,8 +35,8 @@ pub struct Calls {
 }
 
 impl Drop for Calls {
-    // As it would be derived: written out, it is one call wherever these are let go, which keeps the proofs of those
-    // places short.
+    // The drop that would be derived. Written out, it is one call wherever a value that holds a `Calls` is let go,
+    // which keeps the proofs of those places short.
     fn drop(self) {
         let Calls {
             end: _end,
@@ -72,7 +72,7 @@ impl Calls {
         Ok(())
     }
 
-    /// The end of the reply to the logon, asked for so many times.
+    /// The end of the reply to the logon, asked for `turns` times.
     pub fn log_on(&mut self, alloc: Global, turns: u32) -> anyhow::Result<Outcome> {
         let mut end = Outcome::new();
         for _ in 0..turns {

@@ -4,7 +4,7 @@ use crate::bench::{KEY, Outcome, end_of};
 use digest_parts::{hmac_md5, md4};
 use rc4_stream::Rc4;
 
-/// MD4 of a message, so many times.
+/// MD4 of a message, computed `turns` times.
 pub fn digests(message: &[u8], turns: u32) -> Outcome {
     let mut digest = [0; 16];
     for _ in 0..turns {
@@ -13,7 +13,7 @@ pub fn digests(message: &[u8], turns: u32) -> Outcome {
     end_of(&digest)
 }
 
-/// HMAC-MD5 of a message under the fixed key, so many times.
+/// HMAC-MD5 of a message under the fixed key, computed `turns` times.
 pub fn codes(message: &[u8], turns: u32) -> Outcome {
     let mut code = [0; 16];
     for _ in 0..turns {
@@ -22,7 +22,7 @@ pub fn codes(message: &[u8], turns: u32) -> Outcome {
     end_of(&code)
 }
 
-/// The first 16 bytes of the key stream of the fixed key, so many times.
+/// The first 16 bytes of the key stream of the fixed key, computed `turns` times.
 pub fn key_streams(turns: u32) -> Outcome {
     let mut stream = [0; 16];
     for _ in 0..turns {

@@ -9,7 +9,7 @@ use std::alloc::Global;
 /// The number that the moves are made from.
 const NUMBER: u32 = 7;
 
-/// The end of the lines of a drill of so many moves, made so many times.
+/// The end of the lines of a drill of `moves` moves, made `turns` times.
 pub fn drills(alloc: Global, moves: u32, turns: u32) -> anyhow::Result<Outcome>
     requires { moves ≤ 100000 }
 {

@@ -41,8 +41,8 @@ pub struct Keys {
 }
 
 impl Drop for Keys {
-    // As it would be derived: written out, it is one call wherever these are let go, which keeps the proofs of those
-    // places short.
+    // The drop that would be derived. Written out, it is one call wherever a value that holds a `Keys` is let go, which
+    // keeps the proofs of those places short.
     fn drop(self) {
         let Keys {
             schedule: _schedule,
@@ -94,7 +94,7 @@ impl Keys {
         end_of(&self.block)
     }
 
-    /// The return credential of the authenticator, so many times.
+    /// The return credential of the authenticator, which is judged `turns` times.
     fn judge(&mut self, turns: u32) -> anyhow::Result<Outcome> {
         let authenticator = Authenticator {
             credential: CREDENTIAL,
@@ -110,7 +110,7 @@ impl Keys {
         Ok(end_of(&credential))
     }
 
-    /// The session base key that the check of a response gives, so many times.
+    /// The session base key that the check of a response gives, checked `turns` times.
     fn verify(&self, response: &[u8], turns: u32) -> anyhow::Result<Outcome> {
         let (user, domain) = (self.user.units(), self.domain.units());
         let mut base_key = [0; 16];
@@ -124,7 +124,7 @@ impl Keys {
     }
 }
 
-/// One block under a key of 7 bytes, so many times.
+/// One block under a key of 7 bytes, encrypted `turns` times.
 fn key_blocks(turns: u32) -> Outcome {
     let mut block = [0; 8];
     for _ in 0..turns {
@@ -133,7 +133,7 @@ fn key_blocks(turns: u32) -> Outcome {
     end_of(&block)
 }
 
-/// The credential of 8 bytes under the fixed key, so many times.
+/// The credential of 8 bytes under the fixed key, computed `turns` times.
 fn credentials(turns: u32) -> Outcome {
     let mut credential = [0; 8];
     for _ in 0..turns {

@@ -19,7 +19,7 @@ const PDC: [u16; 3] = [0x50, 0x44, 0x43];
 
 const CORP: [u16; 4] = [0x43, 0x4f, 0x52, 0x50];
 
-/// The NT response of the request to log on, read so many times.
+/// The NT response of the request to log on, read `turns` times.
 pub fn read_logons(alloc: Global, stub: &[u8], turns: u32) -> anyhow::Result<Outcome> {
     let mut end = Outcome::new();
     for _ in 0..turns {
@@ -39,7 +39,7 @@ fn response_of(call: &Call) -> &[u8] {
     }
 }
 
-/// The end of a reply that is made and written so many times.
+/// The end of a reply that is made and written `turns` times.
 pub fn write_replies(alloc: Global, turns: u32) -> anyhow::Result<Outcome> {
     let mut end = Outcome::new();
     for _ in 0..turns {

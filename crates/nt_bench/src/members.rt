@@ -46,8 +46,8 @@ pub struct Logons {
 }
 
 impl Drop for Logons {
-    // As it would be derived: written out, it is one call wherever these are let go, which keeps the proofs of those
-    // places short.
+    // The drop that would be derived. Written out, it is one call wherever a value that holds a `Logons` is let go,
+    // which keeps the proofs of those places short.
     fn drop(self) {
         let Logons {
             member: _member,
@@ -80,7 +80,7 @@ impl Logons {
         })
     }
 
-    /// The key that the member tells for the last of so many logons, each over the open channel.
+    /// The key that the member tells for the last of `turns` logons, each over the open channel.
     pub fn let_in(&mut self, alloc: Global, turns: u32) -> anyhow::Result<Outcome> {
         let mut end = Outcome::new();
         for _ in 0..turns {
@@ -92,7 +92,7 @@ impl Logons {
         Ok(end)
     }
 
-    /// A logon, with so many turns of the channel, and the key that is told for it.
+    /// A logon, with `turns` turns of the channel, and the key that is told for it.
     fn log_on(&mut self, alloc: Global, turns: u32) -> anyhow::Result<Outcome> {
         self.ask(alloc)?;
         let told = self.last_turn(alloc, turns)?;

@@ -24,8 +24,8 @@ pub struct Packets {
 }
 
 impl Drop for Packets {
-    // As it would be derived: written out, it is one call wherever these are let go, which keeps the proofs of those
-    // places short.
+    // The drop that would be derived. Written out, it is one call wherever a value that holds a `Packets` is let go,
+    // which keeps the proofs of those places short.
     fn drop(self) {
         let Packets {
             message: _message,
@@ -78,7 +78,7 @@ fn request(alloc: Global) -> anyhow::Result<Vec<u8>> {
     Ok(request)
 }
 
-/// The NT response of the message, read so many times.
+/// The NT response of the message, read `turns` times.
 fn read_messages(alloc: Global, bytes: &[u8], turns: u32) -> anyhow::Result<Outcome> {
     let mut end = Outcome::new();
     for _ in 0..turns {
@@ -114,7 +114,7 @@ fn view_messages_plainly(bytes: &[u8], turns: u32) -> anyhow::Result<Outcome> {
     Ok(end_of(nt))
 }
 
-/// The stub of the request, read so many times.
+/// The stub of the request, read `turns` times.
 fn read_requests(alloc: Global, bytes: &[u8], turns: u32) -> anyhow::Result<Outcome> {
     let mut end = Outcome::new();
     for _ in 0..turns {

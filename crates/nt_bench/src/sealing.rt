@@ -32,7 +32,7 @@ impl Sides {
         }
     }
 
-    /// Carries the unit so many times from the client to the server. Gives the last signature.
+    /// Carries the unit `turns` times from the client to the server. Gives the last signature.
     pub fn carry(&mut self, turns: u32) -> anyhow::Result<Outcome> {
         let mut signature = [0; 16];
         for _ in 0..turns {

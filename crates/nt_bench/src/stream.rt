@@ -37,7 +37,7 @@ impl RunningStream {
         }
     }
 
-    /// Combines the bytes with so many pieces of the stream, one after the other. After 2^32 - 1 pieces the stream
+    /// Combines the bytes with `turns` pieces of the stream, one after the other. After 2^32 - 1 pieces the stream
     /// begins anew.
     pub fn pieces(&mut self, turns: u32) -> Outcome {
         for _ in 0..turns {

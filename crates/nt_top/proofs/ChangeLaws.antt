@@ -11,7 +11,7 @@ use Rattle.member_server.specs.declared.state.Running.{Running}
 use Rattle.nt_words.specs.Jobs.{MemberJob}
 use Rattle.nt_top.specs.Service.{BeginsOneChange, first_of, member_begins, member_plan}
 
--- ---- it goes on
+-- ---- a member that begins a change goes on
 
 begun_runs : (answer : Result Unit Busy) (secrets : SecretsState) (running : Running) (s : State) → is_stopped s ≡ false → is_stopped (change_begun answer secrets running s).state ≡ false
 begun_runs (Ok begun) secrets running s is = refl

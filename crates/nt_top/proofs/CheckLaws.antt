@@ -123,7 +123,7 @@ third_refused hash challenge m none =
       | inr refused ↦ needs_refused 3 (decode_of m) _ refused.0 refused.1
     ]
 
--- and there it comes
+-- a check with a bad word is answered with `BadInput` of its number
 pub check_is_bad : (h c m : List ℕ) (number : ℕ) → IsBadOfCheck h c m number → check_answer h c m ≡ Err (BadInput number)
 unfolding check_answer
 check_is_bad h c m number (inl one) =

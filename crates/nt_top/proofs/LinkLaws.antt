@@ -26,7 +26,7 @@ use Rattle.nt_top.specs.Logon.{most_answers}
 use Rattle.nt_top.specs.LogonExits.{LosesLink, Gone, SendFailed, Stopped, TookAll, fails_to_send, gives_stop, is_gone, tells_gone}
 use Rattle.nt_top.proofs.ToldLaws.{begun_events}
 
--- ---- lists of which something is so
+-- ---- lists of which one item passes a test
 
 pub any_left : {X : Type 0} (test : X → Bool) (front behind : List X) → list_any test front ≡ true → list_any test (front ++ behind) ≡ true
 any_left test front behind is = list_any-append test front behind ∙ or_left (list_any test front) (list_any test behind) is
@@ -84,7 +84,7 @@ gone_closing event.Stop want gone = absurd cc
 pub record LosesAtGone {S : Type 0} (machine : Machine S) (lost : S → Bool) : Type 0 where
   pub at : (s : S) (what : Event) (now : ℕ) (left : List (List ℕ)) → lost s ≡ false → lost (machine.step s what now left).state ≡ true → is_gone what (machine.want s) ≡ true
 
--- ---- where it was shown
+-- ---- where it was shown that a link is lost
 
 -- an event that waits shows it, or one that the port gave, or a send failed
 abbrev Lost : List Event → List Happening → Type 0

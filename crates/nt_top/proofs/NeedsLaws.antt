@@ -35,7 +35,7 @@ needs_err number (Err refused) rest exit e = inl (refused, refl, err_injective (
 pub needs_refused : {X E Y : Type 0} (number : ℕ) (read : Result X E) (rest : X → Result Y Exit) (refused : E) → read ≡ Err refused → needs number read rest ≡ Err (BadInput number)
 needs_refused number read rest refused e = rw e refl
 
--- and one that is taken
+-- a word that is taken lets the rest answer
 pub needs_taken : {X E Y : Type 0} (number : ℕ) (read : Result X E) (rest : X → Result Y Exit) (x : X) (y : Result Y Exit) → read ≡ Ok x → rest x ≡ y → needs number read rest ≡ y
 needs_taken number read rest x y e is = rw e is
 

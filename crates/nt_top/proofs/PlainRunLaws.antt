@@ -10,7 +10,7 @@ use Rattle.domain_controller.specs.TrustStep.{trust_machine}
 use Rattle.nt_top.specs.Unsealed.{ComesToAsk, RunsStayPlain, SealsNothing, asks_in, plain_run, plain_step}
 use Rattle.nt_top.proofs.UnsealedLaws.{step_plain}
 
--- the same event is chosen
+-- where nothing seals, the same event is chosen as by the machine that can't seal
 pub chooses_plain : (state : State) (queue : List Event) (step : Step) (waiting : List Event) → Chooses seal_machine state queue step waiting → Chooses trust_machine (without_sealing state) queue step waiting
 chooses_plain state [] step waiting chooses = chooses
 chooses_plain state (first ∷ later) step waiting chooses = chooses

@@ -64,7 +64,7 @@ service_serves machine file first old new address seed boot most before after r 
     subst (λ e. ServesTo machine file first old address seed boot most before after e) (sym is)
     (result_serves machine file first old new address seed boot most before after r served halted)
 
--- the same service, said of equal parts
+-- a service is one of equal parts
 pub same_service : {S : Type 0} (machine : Machine S) (file named : Option (List ℕ)) (first actions : List Action) (old other : S) (address place seed key : List ℕ) (boot number most events : ℕ) (before after : Sight)
     (exit : Exit) → file ≡ named → first ≡ actions → old ≡ other → address ≡ place → seed ≡ key → boot ≡ number → most ≡ events →
     ServesTo machine file first old address seed boot most before after exit → ServesTo machine named actions other place key number events before after exit

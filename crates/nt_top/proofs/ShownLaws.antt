@@ -191,7 +191,7 @@ show_err text exit e =
 pub shown_answer : (text bytes lines : List ℕ) → decode_of text ≡ Ok bytes → ShowsAs bytes lines → show_answer text ≡ Ok (shown lines)
 shown_answer text bytes lines is shows = show_answer-is text bytes lines is (lines_are bytes lines shows)
 
--- and there it comes
+-- a text that shows nothing is answered with `BadInput(1)`
 pub show_is_bad : (text : List ℕ) → ShowsNothing text → show_answer text ≡ Err (BadInput 1)
 show_is_bad text none =
     elim (ok_or_err (show_answer text)) [

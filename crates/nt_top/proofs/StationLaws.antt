@@ -518,7 +518,7 @@ comes_is (NoAnswer cause) plan seed boot before after comes = tt
 comes_is (BadPeer fault) plan seed boot before after comes = tt
 comes_is Spent plan seed boot before after comes = tt
 
--- they are among those of a client's run
+-- the exits of a station's run are among those of a client's
 pub station_exits : (plan : StationPlan) (seed : List ℕ) (boot : ℕ) (before after : Sight) (exit : Exit) → StationEnds plan seed boot before after exit → IsOfClients exit
 station_exits plan seed boot before after exit station = comes_is exit plan seed boot before after (comes_law plan seed boot before after exit station)
 

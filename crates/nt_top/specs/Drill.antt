@@ -103,11 +103,11 @@ report_text report =
     count_line (codes "moves") report.moves ++ count_line (codes "accepted") report.accepted ++ count_line (codes "refused") report.refused
     ++ count_line (codes "no controller") report.no_controller ++ count_line (codes "passed") report.passed ++ count_line (codes "barred") report.barred
 
--- what the run of so many moves of the number counted
-unfoldable pub drill_text : ℕ → ℕ → List ℕ
+-- what the run of `count` moves of the number counted
+unfoldable pub drill_text : (number count : ℕ) → List ℕ
 drill_text number count = report_text (report_of_run drill_plan (moves_of count number))
 
--- All that is proved of runs holds of the run of so many moves of the number. The drill's plan and its moves are a
+-- All that is proved of runs holds of the run of `count` moves of the number. The drill's plan and its moves are a
 -- schedule, nothing seals, and its controllers hand nothing on.
 pub record IsProvedDrill (number count : ℕ) : Type 0 where
   pub schedule : IsSchedule drill_plan (moves_of count number)

@@ -81,7 +81,7 @@ shown_lines (Err exit) = Err exit
 unfoldable pub show_answer : List ℕ → Result Answer Exit
 show_answer text = needs 1 (decode_of text) (λ bytes. shown_lines (lines_from (u32_of bytes 8) bytes))
 
--- ---- the same in the grammar's own terms
+-- ---- what is shown, in the grammar's own terms
 
 -- A target information is these pairs: it is empty and there are none, or it is their list (MS-NLMP 2.2.2.1).
 abbrev pub InfoPairs : List ℕ → List (ℕ × List ℕ) → Type 0

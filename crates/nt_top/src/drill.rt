@@ -54,8 +54,9 @@ pub(crate) fn drill(alloc: Global, number: u32, moves: u32) -> Result<Answer, Ex
     })
 }
 
-/// The six lines of a drill: what was counted in the run of so many moves of the number, in a world of the drill's plan
-/// (docs/FORMATS.md; this project's own choice). At most 100,000 moves are made. It fails only for want of memory.
+/// The six lines of a drill: what was counted in the run of as many moves of the number as `moves`, in a world of the
+/// drill's plan (docs/FORMATS.md; this project's own choice). At most 100,000 moves are made. It fails only for want of
+/// memory.
 #[tactic(auto, using(crate::proofs::DrillLaws::driving), unfolding(crate::specs::Drill::drill_text))]
 pub fn drill_lines(alloc: Global, number: u32, moves: u32) -> Result<Blob, NoMemory>
     requires { moves ≤ move_limit }

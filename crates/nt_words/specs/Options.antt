@@ -94,7 +94,7 @@ abbrev pub NumbersTheFirstMisfit : Type 0
 NumbersTheFirstMisfit = (first number : ℕ) (choices : List Choice) (rows : List Row) → first_misfit first choices rows ≡ Some number →
     IsFirstMisfit first choices rows number
 
--- where there is none, each value is right
+-- where no value is a misfit, each value is right
 abbrev pub MissesNone : Type 0
 MissesNone = (first : ℕ) (choices : List Choice) (rows : List Row) → first_misfit first choices rows ≡ None → list_all (suits_in rows) choices ≡ true
 

@@ -79,7 +79,7 @@ has_flag flags flag = bit_and flags flag == flag
 abbrev pub offered_flags : ℕ
 offered_flags = 0xE008_8235
 
--- the same for NTLMv1 responses without extended session security
+-- the flags that are offered for NTLMv1 responses without extended session security
 abbrev pub offered_flags_v1 : ℕ
 offered_flags_v1 = 0xE000_8235
 

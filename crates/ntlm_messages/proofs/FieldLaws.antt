@@ -15,7 +15,7 @@ use Rattle.ntlm_messages.specs.declared.refused.WriteRefused.{WriteRefused}
 use Rattle.ntlm_messages.specs.declared.refused.WriteRefused.TheVariants as write
 use Rattle.ntlm_messages.specs.Fields.{◌>>=◌, Shows, IsRefusal, FieldsFit, IsFirstTooLong, lengths_of, form_of, IsOutside, IsInside, bytes_if, version_of, mic_of, length_at, offset_at, IsHeader, header_of, IsField, field_of, IsText, text_of, long_at, signature}
 
--- the same, for a proof that goes on with the value
+-- two readings one after the other give a value, for a proof that goes on with what the first gives
 pub bind_then : {A B E : Type 0} {P : Type 0} (r : Result A E) (f : A → Result B E) (y : B) → (r >>= f) ≡ Ok y → ((x : A) → r ≡ Ok x → f x ≡ Ok y → P) → P
 bind_then (Ok x) f y e next = next x refl e
 bind_then (Err d) f y e next = absurd cc
@@ -63,7 +63,7 @@ found_from memory (Err e) value P exact found = tt
 pub only_from : {V E : Type 0} (memory : E) (r value : Result V E) (v : V) → UpToMemory memory r value → value ≡ Ok v → UpToMemory memory r (Ok v)
 only_from memory r value v exact only = subst (λ x. UpToMemory memory r x) only exact
 
--- the same of an answer that shows the value
+-- what holds of the value holds of what shows it
 pub shown_found : {X Y E : Type 0} (shown : X → Y) (r : Result X E) (value : Result Y E) (P : Y → Type 0) → Shows shown r value → ((v : Y) → value ≡ Ok v → P v) → IfOk r (λ x. P (shown x))
 shown_found shown (Ok x) value P exact found = found (shown x) exact
 shown_found shown (Err e) value P exact found = tt

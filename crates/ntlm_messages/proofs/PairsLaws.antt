@@ -229,7 +229,7 @@ starts bytes =
 
 -- ---- whether bytes are pairs
 
--- what is left of the answer where the pairs aren't kept, as in `verdict_on_pairs`
+-- the answer of a reading whose pairs aren't kept, as in `verdict_on_pairs`
 abbrev pub judgement : Read → Result (Unit {0}) PairsRefused
 judgement read = read >>= λ pairs. Ok tt
 

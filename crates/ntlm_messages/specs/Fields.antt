@@ -40,7 +40,7 @@ long_at bytes place = unwrap_or (u32_of bytes place) 0
 abbrev pub signature : List ℕ
 signature = codes "NTLMSSP" ++ 0 ∷ []
 
--- a message of this type, with at least so many bytes
+-- a message of the type `kind`, with at least `least` bytes
 pub record IsHeader (kind least : ℕ) (bytes : List ℕ) : Type 0 where
   pub whole : least ≤ length bytes
   pub signed : take 8 bytes ≡ signature
@@ -69,7 +69,7 @@ pub record IsPart (offset size : ℕ) (bytes part : List ℕ) : Type 0 where
   pub ends : offset + length part ≤ length bytes
   pub bytes_are : take (length part) (drop offset bytes) ≡ part
 
--- These are the field's bytes. That an empty field's offset is free is this project's own choice.
+-- `part` is the bytes of the field at `place`. That an empty field's offset is free is this project's own choice.
 pub record IsField (place size : ℕ) (bytes part : List ℕ) : Type 0 where
   pub len : length_at bytes place ≡ length part
   pub stands : (part ≡ []) ⊎ IsPart (offset_at bytes place) size bytes part
@@ -108,8 +108,8 @@ abbrev pub narrow_gaps : List ℕ → List ℕ → ℕ → ℕ
 narrow_gaps [] bytes gap = gap
 narrow_gaps (place ∷ places) bytes gap = narrow_gaps places bytes (narrow_gap place bytes gap)
 
--- the number of bytes at the place, where that is so
-abbrev pub bytes_if : Bool → ℕ → ℕ → List ℕ → Option (List ℕ)
+-- the bytes at a place, as many as `number`, where they are there
+abbrev pub bytes_if : (there : Bool) (place number : ℕ) → List ℕ → Option (List ℕ)
 bytes_if there place number bytes = if there then Some (take number (drop place bytes)) else None
 
 -- the version, 8 bytes behind the fixed header: with the flag, and before the payload
@@ -143,7 +143,7 @@ IsFirstOdd [] bytes name = ⊥
 IsFirstOdd (text ∷ texts) bytes name =
     ((length_at bytes text.1 % 2 ≡ 1) × (name ≡ text.0)) ⊎ ((length_at bytes text.1 % 2 ≡ 0) × IsFirstOdd texts bytes name)
 
--- The first refusal of a message of this type, least length, header size, flags, fields in the header's order and text
+-- The first refusal of a message, by its type, least length, header size, flags, fields in the header's order and text
 -- fields. Want of memory is none.
 abbrev pub IsRefusal : ℕ → ℕ → ℕ → ℕ → List (Field × ℕ) → List (Field × ℕ) → List ℕ → MessageRefused → Type 0
 IsRefusal kind least size flags fields texts bytes ShortHeader = length bytes < least

@@ -48,7 +48,7 @@ pub fn check_header(bytes: &[u8], kind: u32, least: usize) -> Result<(), Message
 /// A payload field that was read.
 #[derive(Clone, Copy)]
 pub struct Part<'a> {
-    /// Its bytes.
+    /// The field's bytes.
     pub bytes: &'a [u8],
     /// The least offset of it and of the fields read before it, of those that aren't empty; the message's length where
     /// all are.

@@ -13,8 +13,9 @@ ghost use Rattle.ntlm_messages.specs.declared.messages.Negotiate.{Negotiate};
 ghost use Rattle.ntlm_messages.specs.declared.messages.Challenge.{Challenge};
 ghost use Rattle.ntlm_messages.specs.declared.messages.Authenticate.{Authenticate};
 
-/// The written form of a message or of a list of pairs is read as the same value. So are units that are written in
-/// UTF-16LE into a text field of a message with the flag UNICODE, whose length is then even as a writer asks for.
+/// The written form of a message or of a list of pairs is read as the same value. Units that are written in UTF-16LE
+/// into a text field of a message with the flag UNICODE are read as those units, and the field's length is even as a
+/// writer asks for.
 pub fn what_is_written_is_read()
     ensures negotiate { (value : Negotiate) →
         negotiate.CanWriteNegotiate value → negotiate.HasWidths value →

@@ -45,8 +45,9 @@ unfoldable pub is_ess_pair : ℕ → List ℕ → List ℕ → Bool
 is_ess_pair flags lm nt =
     has_flag flags negotiate_extended_sessionsecurity && length lm == 24 && length nt == 24
 
--- the client's challenge, with which the LM response of such a pair begins; none in another pair
-abbrev pub client_challenge_by : Bool → List ℕ → Option (List ℕ)
+-- the client's challenge, with which the LM response of a pair with extended session security begins; none in another
+-- pair
+abbrev pub client_challenge_by : (is_ess : Bool) → List ℕ → Option (List ℕ)
 client_challenge_by true lm = Some (take 8 lm)
 client_challenge_by false lm = None
 

@@ -15,8 +15,8 @@ Verifies hash user domain challenge nt =
     ((length nt ≡ 24) × (nt ≡ response_v1_of hash challenge))
     ⊎ ((44 ≤ length nt) × (take 16 nt ≡ proof_of (key_v2_of hash user domain) challenge (drop 16 nt)))
 
--- The test of it. The Bool arguments: the response has 24 bytes, and it has 44 bytes or more.
-abbrev pub verifies_by : Bool → Bool → List ℕ → List ℕ → List ℕ → List ℕ → List ℕ → Bool
+-- The test of `Verifies`, by whether the response has 24 bytes, and whether it has 44 bytes or more.
+abbrev pub verifies_by : (is_short is_long : Bool) (hash user domain challenge nt : List ℕ) → Bool
 verifies_by true _ hash user domain challenge nt = bytes_eq nt (response_v1_of hash challenge)
 verifies_by false true hash user domain challenge nt =
     bytes_eq (take 16 nt) (proof_of (key_v2_of hash user domain) challenge (drop 16 nt))

@@ -144,8 +144,8 @@ impl Session {
 ///
 /// In a session of the client and one of the server, of one exported session key and the same flags, the units that one
 /// seals and the other opens, one after another, are all opened, and to what they were: fewer than 2^32 units with a
-/// range in each. So it is of any two sessions that refused nothing, where one sends in the direction in which the
-/// other receives.
+/// range in each. Any two sessions that refused nothing carry units in this way, where one sends in the direction in
+/// which the other receives.
 pub fn what_is_sealed_opens()
     ensures to_server { (exported : List ℕ) (flags : ℕ) (units : List PlainUnit)
         → AllByRecursion HasRange units → length units < 2 ^ 32

@@ -13,7 +13,7 @@ impl Side {
     ghost use Rattle.std.specs.Prelude.{◌≡◌};
     ghost use Rattle.ntlm_seal.specs.Sides.{other_side};
 
-    /// The other end.
+    /// The other side of a session.
     pub fn other(self) -> Side
         ensures { result ≡ other_side self }
     {

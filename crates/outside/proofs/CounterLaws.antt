@@ -84,7 +84,7 @@ challenges_from-next seed boot count zero h = absurd (omega arith)
 challenges_from-next seed boot count (suc more) h =
     let less : more ≡ suc more - 1 = omega arith in ap (λ n. challenge_of seed boot count ∷ challenges_from seed boot (count + 1) n) less
 
--- those drawn from 0 on are distinct
+-- the challenges that are drawn from the count 0 on are distinct
 pub challenges_from-distinct : (seed : List ℕ) (boot more : ℕ) → boot < 2 ^ 32 → more < 2 ^ 32 → AllPairs (λ one other. one ≢ other) (challenges_from seed boot 0 more)
 challenges_from-distinct seed boot more hb hm i j d before within same =
     let long : length (challenges_from seed boot 0 more) ≡ more = length-challenges_from seed boot 0 more in

@@ -20,6 +20,6 @@ put_writes files name bytes = record {
   others = λ other differs. put_others bytes_eq name other bytes files same_bytes differs;
 }
 
--- the same of files that are known by an equation
+-- a file is written where the files behind it are known by an equation
 pub writes_by : (files now : List (List ℕ × List ℕ)) (name bytes : List ℕ) → now ≡ put bytes_eq name bytes files → Writes files now name bytes
 writes_by files now name bytes e = subst (λ x. Writes files x name bytes) (sym e) (put_writes files name bytes)

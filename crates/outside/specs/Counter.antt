@@ -19,8 +19,8 @@ maker_key_of seed = seed_word seed 0 ++ seed_word seed 1 ++ seed_word seed 2 ++ 
 unfoldable pub challenge_of : List ℕ → ℕ → ℕ → List ℕ
 challenge_of seed boot count = cred_of (maker_key_of seed) (to_le_bytes w64 (boot * 2 ^ 32 + count))
 
--- so many challenges, from a count on
-unfoldable pub challenges_from : List ℕ → ℕ → ℕ → ℕ → List (List ℕ)
+-- challenges from `count` on, as many as `more`
+unfoldable pub challenges_from : (seed : List ℕ) (boot count more : ℕ) → List (List ℕ)
 challenges_from seed boot count zero = []
 challenges_from seed boot count (suc more) = challenge_of seed boot count ∷ challenges_from seed boot (count + 1) more
 

@@ -37,7 +37,7 @@ pub record Machine (S : Type 0) : Type 0 where
   pub step : S → Event → ℕ → List (List ℕ) → Stepped S
   -- the link that the end waits for
   pub want : S → Option ℕ
-  -- whether it has its outcome, after which no event is asked for
+  -- whether the end has its outcome, after which no event is asked for
   pub is_over : S → Bool
   -- the line that is put for an action
   pub line : Action → List ℕ

@@ -5,6 +5,6 @@ use Rattle.std.specs.Prelude.{ℕ, ◌+◌, ◌-◌, ◌*◌, ◌/◌, ◌^◌, 
 abbrev pub moment_of_1970 : ℕ
 moment_of_1970 = 11644473600 * 10000000
 
--- the moment so many nanoseconds after 1970-01-01, which stands still at the end of 64 bits
-abbrev pub moment_after_1970 : ℕ → ℕ
+-- the moment `nanoseconds` after 1970-01-01, which stands still at the end of 64 bits
+abbrev pub moment_after_1970 : (nanoseconds : ℕ) → ℕ
 moment_after_1970 nanoseconds = min (moment_of_1970 + nanoseconds / 100) (2 ^ 64 - 1)

@@ -28,10 +28,10 @@ pub record PortScript : Type 0 where
   pub sent : List (ℕ × List ℕ)
   -- what happened, as far as it was kept
   pub story : List Happening
-  -- whether it still tells: all that happened is kept
+  -- whether the port still tells: all that happened is kept
   pub tells : Bool
 
--- the story that it tells
+-- the story that a port tells
 abbrev pub port_story : PortScript → Option (List Happening)
 port_story port = if port.tells then Some port.story else None
 

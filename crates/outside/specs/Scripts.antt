@@ -21,10 +21,10 @@ pub record SinkScript : Type 0 where
   pub failing : List ℕ
   pub calls : ℕ
   pub faults : ℕ
-  -- whether it still tells: all bytes that it took are kept
+  -- whether the sink still tells: all bytes that it took are kept
   pub tells : Bool
 
--- the bytes that it tells
+-- the bytes that a sink tells
 abbrev pub sink_taken : SinkScript → Option (List ℕ)
 sink_taken sink = if sink.tells then Some sink.bytes else None
 
@@ -33,7 +33,7 @@ pub record SureScript : Type 0 where
   pub bytes : List ℕ
   pub tells : Bool
 
--- the bytes that it tells
+-- the bytes that a sink that never fails tells
 abbrev pub sure_taken : SureScript → Option (List ℕ)
 sure_taken sink = if sink.tells then Some sink.bytes else None
 
@@ -46,7 +46,7 @@ pub record ClockScript : Type 0 where
   pub given : List ℕ
   pub tells : Bool
 
--- the moments that it tells
+-- the moments that a listed clock tells
 abbrev pub clock_moments : ClockScript → Option (List ℕ)
 clock_moments clock = if clock.tells then Some clock.given else None
 

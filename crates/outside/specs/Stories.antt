@@ -82,7 +82,7 @@ before_failure (send ∷ later) = if send.1 then [] else send.0 ∷ before_failu
 abbrev pub strings_on : ℕ → List Happening → List (List ℕ)
 strings_on link story = before_failure (sends_on link story)
 
--- their bytes, one after the other
+-- the bytes of strings, one after the other
 abbrev pub bytes_of : List (List ℕ) → List ℕ
 bytes_of strings = flat_map (λ (bytes : List ℕ). bytes) strings
 
@@ -100,7 +100,7 @@ has_failed send = send.1
 abbrev pub fails_on : ℕ → List Happening → Bool
 fails_on link story = list_any has_failed (sends_on link story)
 
--- whether it is a dial or a send that failed
+-- whether a happening is a dial or a send that failed
 abbrev pub is_link_failure : Happening → Bool
 is_link_failure (happening.Sent link bytes failed) = failed
 is_link_failure (happening.Dialled peer None) = true

@@ -15,9 +15,9 @@ pub enum Action {
     Dial(Blob),
     /// Close the link.
     Close(u32, CloseCause),
-    /// The logon on the link ended so.
+    /// How the logon on the link ended.
     Told(u32, Outcome),
-    /// The authenticator of a logon call was judged so.
+    /// How a call on a secure channel was judged, by its authenticator.
     Judged(Judged),
 }
 
@@ -83,13 +83,13 @@ pub enum DropCause {
 /// How a controller judged the authenticator of a logon call (MS-NRPC 3.1.4.5).
 #[derive(Clone, Copy, Debug, PartialEq, Eq)]
 pub enum Judged {
-    /// It passed, and the reply has this NTSTATUS.
+    /// The call passed, and the reply has this NTSTATUS.
     Passed(u32),
-    /// It passed, and the logon is asked of a controller of another domain.
+    /// The call passed, and its logon is asked of a controller of another domain.
     Forwarded,
     /// A logon that was asked of a controller of another domain has come to this NTSTATUS.
     Answered(u32),
-    /// It isn't the next one of its channel.
+    /// The call isn't the next one of its channel.
     Barred,
     /// There is no channel, or the call names none.
     NoChannel,

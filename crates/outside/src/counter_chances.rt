@@ -38,7 +38,7 @@ impl Model for CounterChances {
 }
 
 impl CounterChances {
-    /// It stands as after `start` with a seed of zeros and boot 0.
+    /// Chances as they stand after `start` with a seed of zeros and boot 0.
     pub fn new() -> CounterChances
         ensures exact { result ≡ counter_at (replicate 32 0) 0 0 }
 

@@ -16,10 +16,10 @@ pub const MOST_FILE_BYTES: usize = 16777216;
 /// Why a file wasn't read.
 #[derive(Clone, Copy, Debug, PartialEq, Eq, Error)]
 pub enum FileRefused {
-    /// It couldn't be read. The count of faults rose in this call.
+    /// The file couldn't be read. The count of faults rose in this call.
     #[error("the file could not be read")]
     Failed,
-    /// It has more bytes than a file may have here.
+    /// The file has more bytes than a file may have here.
     #[error("the file is too long")]
     TooLong,
     /// No memory was found for its content.

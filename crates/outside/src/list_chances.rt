@@ -34,7 +34,7 @@ impl Model for ListChances {
 }
 
 impl ListChances {
-    /// It stands as after `start` with a seed of zeros and boot 0.
+    /// Chances as they stand after `start` with a seed of zeros and boot 0.
     pub fn new(draws: Draws) -> ListChances
         ensures { result ≡ record { seed = replicate 32 0; boot = 0; drawn = []; left = draws } }
     {

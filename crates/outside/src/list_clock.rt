@@ -34,7 +34,7 @@ impl Model for ListClock {
 }
 
 impl ListClock {
-    /// It will give the first moment, and then the later ones.
+    /// A clock that will give the first moment, and then the later ones.
     pub fn new(alloc: Global, first: u64, later: Moments) -> ListClock
         ensures { result ≡ record { next = first; later = later; given = []; tells = true } }
     {
@@ -46,7 +46,7 @@ impl ListClock {
         }
     }
 
-    /// Whether it still tells its moments: none was lost for want of memory.
+    /// Whether the clock still tells its moments: none was lost for want of memory.
     pub fn tells(&self) -> bool
         ensures { result ≡ self.now.tells }
     {

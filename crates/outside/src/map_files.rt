@@ -52,7 +52,7 @@ impl Model for MapFiles {
 }
 
 impl MapFiles {
-    /// It has these files, no call was made, and these calls will fail.
+    /// Files with these texts, of which no call was made, and of which these calls will fail.
     pub fn new(alloc: Global, files: Texts, failing: Calls) -> MapFiles
         ensures { result ≡ record {
           files = files;
@@ -76,7 +76,7 @@ impl MapFiles {
         }
     }
 
-    /// Whether it still tells its reads and writes: none was lost for want of memory.
+    /// Whether the files still tell their reads and writes: none was lost for want of memory.
     pub fn tells(&self) -> bool
         ensures { result ≡ self.now.tells }
     {

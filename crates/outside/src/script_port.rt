@@ -65,7 +65,7 @@ impl Model for ScriptPort {
 }
 
 impl ScriptPort {
-    /// It will give these events, no call was made, and these calls will fail.
+    /// A port that will give these events, of which no call was made, and of which these calls will fail.
     pub fn new(alloc: Global, events: Events, failing: Calls) -> ScriptPort
         requires { IsTrue (list_all is_scripted events) }
         ensures { result ≡ record {
@@ -94,8 +94,8 @@ impl ScriptPort {
         }
     }
 
-    /// Whether it may list the events: each is `Opened` of a link below 1000, `Bytes` of at most 65,536 bytes, `Closed`
-    /// or `Stop`.
+    /// Whether a script may list the events: each is `Opened` of a link below 1000, `Bytes` of at most 65,536 bytes,
+    /// `Closed` or `Stop`.
     pub fn may_list(events: &[Event]) -> bool
         ensures { result ≡ list_all is_scripted events.now }
     {
@@ -109,7 +109,7 @@ impl ScriptPort {
         &self.sent
     }
 
-    /// Whether it still tells its story: nothing that happened was lost for want of memory.
+    /// Whether the port still tells its story: nothing that happened was lost for want of memory.
     pub fn tells(&self) -> bool
         ensures { result ≡ self.now.tells }
     {

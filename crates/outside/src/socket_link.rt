@@ -51,7 +51,7 @@ impl<T: Read + Write + AsRawFd + Drop> Link<T> {
         }
     }
 
-    /// Its socket.
+    /// The link's socket.
     pub(crate) fn socket(&self) -> &T {
         &self.stream
     }
@@ -68,7 +68,7 @@ impl<T: Read + Write + AsRawFd + Drop> Link<T> {
         self.leaves.is_some()
     }
 
-    /// Whether it was silent for so many seconds, or this end closed it and its time is over.
+    /// Whether the link was silent for `limit` seconds, or this end closed it and its time is over.
     pub(crate) fn is_over(&self, now: u64, limit: u64) -> bool {
         match self.leaves {
             Some(last) => last <= now,
@@ -225,7 +225,7 @@ fn keep(waiting: &mut Vec<u8>, bytes: &[u8]) -> bool
         && waiting.extend_from_slice(bytes).is_ok()
 }
 
-/// Takes so many bytes away from the front.
+/// Takes `count` bytes away from the front.
 fn drop_front(waiting: &mut Vec<u8>, count: usize)
     ensures { waiting.new.items ≡ drop count waiting.old.items }
 {

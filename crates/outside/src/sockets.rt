@@ -49,7 +49,7 @@ const EINVAL: i32 = 22;
 
 const ENOTSOCK: i32 = 88;
 
-/// Those that say that descriptors or memory are wanting.
+/// The errors of Linux that say that descriptors or memory are wanting.
 const ENOMEM: i32 = 12;
 
 const ENFILE: i32 = 23;
@@ -96,7 +96,7 @@ pub(crate) struct Sockets<N: Net> {
     looked: u64,
     /// The link that gave bytes last, where it is to be read once more before the port waits.
     ahead: Option<u32>,
-    /// How many pieces are to come until a link is read so again.
+    /// How many pieces are to come until a link is again read once more before the port waits.
     pieces_until_ahead: u32,
 }
 
@@ -324,7 +324,7 @@ impl<N: Net + Clock> Sockets<N> {
         if self.links.contains_key(&number) || stream.set_nonblocking(true).is_err() {
             return false;
         }
-        // Without it each small unit waits for an answer to the one before.
+        // Without this option each small unit waits for an answer to the one before.
         stream.set_nodelay(true).ok();
         let Some(watch) = &self.watch else {
             return false;
@@ -457,7 +457,7 @@ fn limit_of(number: u32, want: Option<u32>, silence: u64) -> u64 {
     }
 }
 
-/// A stream to the first address of the peer that answers, within so many seconds for all.
+/// A stream to the first address of the peer that answers, within `limit` seconds for all.
 fn connect<N: Net + Clock>(net: &N, peer: &str, limit: u64) -> Option<N::Stream> {
     let begun = net.monotonic().ok()?;
     for address in peer.to_socket_addrs(net).ok()? {

@@ -42,7 +42,7 @@ impl Model for SurePort {
 }
 
 impl SurePort {
-    /// It will give these events.
+    /// A port that will give these events.
     pub fn new(alloc: Global, events: Events) -> SurePort
         requires { IsTrue (list_all is_scripted events) }
         ensures { result ≡ record {
@@ -66,7 +66,7 @@ impl SurePort {
         self.script.sent()
     }
 
-    /// Whether it still tells its story: nothing that happened was lost for want of memory.
+    /// Whether the port still tells its story: nothing that happened was lost for want of memory.
     pub fn tells(&self) -> bool
         ensures { result ≡ self.now.tells }
     {

@@ -46,7 +46,7 @@ impl SureSink {
         self.kept.bytes()
     }
 
-    /// Whether it still tells what it took: no bytes were lost for want of memory.
+    /// Whether the sink still tells what it took: no bytes were lost for want of memory.
     pub fn tells(&self) -> bool
         ensures { result ≡ self.now.tells }
     {

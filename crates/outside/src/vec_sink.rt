@@ -62,7 +62,7 @@ impl VecSink {
         self.bytes.as_slice()
     }
 
-    /// Whether it still tells what it took: no bytes were lost for want of memory.
+    /// Whether the sink still tells what it took: no bytes were lost for want of memory.
     pub fn tells(&self) -> bool
         ensures { result ≡ self.now.tells }
     {

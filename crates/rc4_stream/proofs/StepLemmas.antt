@@ -40,7 +40,7 @@ advanced-is key used (suc n) =
 
 -- ---- exchanges
 
--- what is left after the two writes that exchange entries
+-- two writes that exchange entries leave the table with the two swapped
 pub exchanged : (table : List ℕ) (i j : ℕ) → length table ≡ 256 → i < 256 → j < 256 → set (set table i (get_or table j 0)) j (get_or table i 0) ≡ swap table i j
 exchanged table i j e hi hj = swap_is table i j 0 (omega arith) (omega arith)
 

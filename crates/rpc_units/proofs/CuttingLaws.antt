@@ -16,7 +16,7 @@ use Rattle.rpc_units.proofs.JoiningLaws.{with_stub-own, stub_short, AddsTo-IsJoi
 use Rattle.rpc_units.proofs.WritingLaws.{length_written, length_zeros, unit_of-written}
 use Rattle.rpc_units.specs.Joining.{stub_of, with_stub, key_of, same_key, same_call, stubs_of, Continue, IsJoined, fragment, fragments_of, stub_size, cut_of, HasStub, IsWholeCall}
 
--- the rest is the last fragment
+-- a stub that isn't longer than a fragment's is the last fragment
 pub fragments_end : (most : ℕ) (unit : RpcUnit) (size : ℕ) (first : Bool) (stub : List ℕ) → length stub ≤ size → fragments_of most unit size first stub ≡ fragment unit first true stub ∷ []
 fragments_end zero unit size first stub short = refl
 fragments_end (suc most) unit size first stub short = rw (le-leb _ _ short) refl
@@ -146,7 +146,7 @@ whole_short : (others : List RpcUnit) (unit : RpcUnit) → IsJoined others unit 
 whole_short [] unit h = absurd h
 whole_short (first ∷ others) unit h = rw h.2 (omega arith, stub_short first.body (stub_of first.body ++ stubs_of others))
 
--- no fewer fragments of at most so many stub bytes are joined to the call
+-- no fewer fragments with the stub bytes that `limit` leaves are joined to the call
 pub cut_fewest : (unit : RpcUnit) (limit : ℕ) (others : List RpcUnit) → IsJoined others unit → AllByRecursion (λ u. length (stub_of u.body) ≤ stub_size limit) others → length (cut_of unit limit) ≤ length others
 unfolding cut_of
 cut_fewest unit limit others joined each =
@@ -201,7 +201,7 @@ pub cut_each : (P : RpcUnit → Type 0) (unit : RpcUnit) (limit : ℕ) → 56 �
 unfolding cut_of
 cut_each P unit limit least one = fragments_each P unit (stub_size limit) one (length (stub_of unit.body)) true (stub_of unit.body) (omega arith) (omega arith)
 
--- each fragment of a call is written with at most so many bytes
+-- each fragment of a call is written with at most as many bytes as `limit` says
 pub cut_short : (unit : RpcUnit) (limit : ℕ) → HasStub unit.body → 56 ≤ limit → AllByRecursion (λ u. length (written u) + 16 ≤ limit + value_len unit.trailer) (cut_of unit limit)
 cut_short unit limit h least =
     cut_each (λ u. length (written u) + 16 ≤ limit + value_len unit.trailer) unit limit least (λ first last stub short. fragment_short unit limit first last stub h (omega arith) short)

@@ -156,11 +156,11 @@ next_rule : (broken : Bool) (held : List ℕ) → InflowRule (next_by broken hel
 next_rule true held = tt
 next_rule false held = taken_rule (front_of held) (front_rule held)
 
--- nor does a stream refuse for it
+-- a stream doesn't refuse for want of memory
 pub next_memory : (flow : Flow) (result : Result (Option ℕ) InflowRefused) → result ≡ next_of flow → result ≡ Err (inflow.Refused Memory) → ⊥
 next_memory flow result is e = subst InflowRule (sym is ∙ e) (next_rule flow.broken flow.held)
 
--- nor is what stands behind the units of a stream
+-- what stands behind the units of a stream isn't refused for want of memory
 
 abbrev CutRule : Option UnitRefused → Type 0
 CutRule None = Unit {0}

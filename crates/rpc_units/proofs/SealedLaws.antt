@@ -210,7 +210,7 @@ sealed_of-Some bytes from to e =
       value = s.stands.value_from ∙ ap (λ (p : ℕ). drop (p + 8) bytes) place;
     }
 
--- ---- another range
+-- ---- bytes with another range
 
 -- the trailer of bytes that end alike from where it stands
 trailer_kept : (a b : List ℕ) (trailer : Trailer) (k : Kind) (place end : ℕ) → IsTrailer trailer a k place end → length b ≡ length a → authentication_of b ≡ authentication_of a → drop place b ≡ drop place a → IsTrailer trailer b k place end
@@ -311,7 +311,7 @@ unit_of-range_replaced bytes unit from to range sealed read count =
     let pairs : pair 24 (length (range_replaced bytes from to range) - (8 + length r.trailer.value)) ≡ pair from to = ap (λ p. pair p (length (range_replaced bytes from to range) - (8 + length r.trailer.value))) (sym r.starts) ∙ ap (pair from) (let e : length (range_replaced bytes from to range) - (8 + length r.trailer.value) ≡ to = omega (arith, all, r.ends) in e) in
     (again, more ∙ pairs)
 
--- ---- another value
+-- ---- bytes with another value
 
 body_front : (front a : List ℕ) (end : ℕ) → 16 ≤ length front → end ≤ length front → body_bytes end (front ++ a) ≡ body_bytes end front
 body_front front a end long within =

@@ -53,6 +53,6 @@ privacy_level = 6
 
 -- ---- a limit
 
--- so many contexts of 24 bytes and more fit into a bind of 5,840 bytes, and so many results into its answer
+-- this many contexts, of 24 bytes and more, fit into a bind of 5,840 bytes, and this many results into its answer
 abbrev pub context_limit : ℕ
 context_limit = 242

@@ -139,7 +139,7 @@ answer_by None value = Ok value
 
 -- ---- the count of bad passwords afterwards
 
--- one more, up to 65,535, where the refusal counts; 0 where nothing refuses; else as before
+-- the count is one more, up to 65,535, where the refusal counts; 0 where nothing refuses; else as it was
 abbrev pub count_after : Option Refusal → ℕ → ℕ
 count_after None count = 0
 count_after (Some refused) count = if refused.counts then min (count + 1) 65535 else count

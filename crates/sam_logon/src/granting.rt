@@ -41,7 +41,8 @@ pub(crate) fn sam_info(
     ensures short { IfOk result HasShortTexts }
     ensures range { IfOk result InRangeSamInfo }
 {
-    // so that it is known that the domain, its SID and the controller's name have their forms, and the key 16 bytes
+    // Reading them makes it known that the domain, its SID and the controller's name have their forms, and the key 16
+    // bytes.
     let _domain = table.domain();
     let _sid = table.sid();
     let _controller = controller.bytes();

@@ -19,7 +19,7 @@ use wire_base::Name;
 pub(crate) struct Refusal {
     /// The NTSTATUS.
     pub(crate) status: u32,
-    /// Whether it counts as a bad password.
+    /// Whether the refusal counts as a bad password.
     pub(crate) counts: bool,
 }
 

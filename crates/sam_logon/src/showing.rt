@@ -17,7 +17,7 @@ pub(crate) trait Shows {
         ensures { result
             ≡ verified_by ((shown self.now).right hash.now) ((shown self.now).key hash.now) };
 
-    /// Whether it is an NT response of 24 bytes.
+    /// Whether what is shown is an NT response of 24 bytes.
     fn is_short(&self) -> bool
         ensures { result ≡ (shown self.now).short };
 }

@@ -74,7 +74,7 @@ pub reply_stub : (value : SetReply) → InRangeSetReply value → IsStub (Begins
 unfolding written_set_reply
 reply_stub value is = stub_of _ (λ begins. begins) (reply_law value nothing is)
 
--- such a stub is read as its value
+-- a stub that begins with a value is read as that value
 pub stub_again : {T : Type 0} (layout : Layout T) (value : T) (size : ℕ) (stub : List ℕ) → IsStub (Begins layout value) size stub → parsed_by set_refused (λ v. v) layout stub ≡ Ok value
 stub_again layout value size stub s = Begins-parsed layout stub s.are_bytes value s.is
 

@@ -128,8 +128,8 @@ line_if false digits behind = None
 unfoldable pub first_line : List ℕ → Option Line
 first_line text = line_if (nat_le 32 (length text)) (decode_sized (take 32 text) 16) (drop 32 text)
 
--- two secrets, of which the current one is tried, where nothing is left of the text, which the first argument says
-abbrev pub two_at_end : Bool → List ℕ → List ℕ → Option SecretsState
+-- two secrets, of which the current one is tried, where nothing is left of the text
+abbrev pub two_at_end : (is_at_end : Bool) → List ℕ → List ℕ → Option SecretsState
 two_at_end true current next = Some (record { current = current; next = Some (untried_next next) })
 two_at_end false current next = None
 

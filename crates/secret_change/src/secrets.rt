@@ -15,7 +15,7 @@ use wire_base::{Blob, NoMemory};
 pub(crate) struct Next {
     /// The secret.
     pub(crate) secret: [u8; 16],
-    /// Whether it is tried, and not the current one.
+    /// Whether the next secret is tried, and not the current one.
     pub(crate) is_tried: bool,
 }
 

@@ -15,7 +15,7 @@ use Rattle.end_links.proofs.KeepLaws.{comes_to, unit_served}
 abbrev pub BesideFact : Type 0 → Type 0 → Type 1
 BesideFact W T = List (ServedUnit W T) → ServedPart W T → Type 0
 
--- it stays through each unit
+-- a fact of the units served and of what they leave stays through each unit
 abbrev pub StaysByUnit : {W T : Type 0} → Server W T → BesideFact W T → Type 0
 StaysByUnit {W} {T} server Holds =
     (done : List (ServedUnit W T)) (bytes : List ℕ) (work : W) (talk : T) (left : List (List ℕ)) → Holds done (comes_to work (Some talk) left) →
@@ -119,7 +119,7 @@ served_such server Holds P one units work talk left holds =
     let its = one bytes work talk left holds.1 in (all_push P done (unit_served server bytes work talk left) holds.0 its.0, its.1))
     (λ done work talk left holds. holds) units [] work talk left (tt, holds)).0
 
--- and what is written down of each is
+-- a fact of what is written down of each item holds of all that is written down
 pub all_mapped : {U N : Type 0} (P : N → Type 0) (note : U → N) (items : List U) → AllByRecursion (λ item. P (note item)) items →
     AllByRecursion P (map note items)
 all_mapped P note [] all = tt

@@ -85,8 +85,8 @@ CarriesReply (Calling channel number timestamp) j bytes = ⊥
 CarriesReply (ReplyTo channel number request) None bytes = ⊥
 CarriesReply (ReplyTo channel number request) (Some j) bytes = IsReplyOfCall channel number request j bytes
 
--- the next of what was sent is for this unit where it sends something, and carries that
-abbrev pub IsSentBy : (Mark → Option Judging → List ℕ → Type 0) → Bool → Answered → List (List ℕ) → (List (List ℕ) → Type 0) → Type 0
+-- if the unit sends something, the next of what was sent carries that, and `Later` holds of the rest
+abbrev pub IsSentBy : (Carries : Mark → Option Judging → List ℕ → Type 0) (sends : Bool) (one : Answered) (sent : List (List ℕ)) (Later : List (List ℕ) → Type 0) → Type 0
 IsSentBy Carries false one sent Later = Later sent
 IsSentBy Carries true one [] Later = ⊥
 IsSentBy Carries true one (bytes ∷ sent) Later = Carries one.mark one.judging bytes × Later sent

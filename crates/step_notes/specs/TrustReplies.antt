@@ -57,7 +57,7 @@ pub record IsUnaskedReply (j : Judging) (bytes : List ℕ) : Type 0 where
   pub limit : ℕ
   pub frames : bytes ≡ bytes_of_call (response_of j.number context (stub_unasked next.channel next.given validation)) limit
 
--- It came in that unit of the bag, passed on that channel and had that number, and these bytes are its reply.
+-- The call came in that unit of the bag, passed on that channel and had that number, and these bytes are its reply.
 pub record IsReplyOfUnasked (channel : ChannelIdentity) (number request : ℕ) (j : Judging) (bytes : List ℕ) : Type 0 where
   pub came : j.source ≡ InUnit request
   pub passed : passed_channel j ≡ Some channel
@@ -66,8 +66,9 @@ pub record IsReplyOfUnasked (channel : ChannelIdentity) (number request : ℕ) (
 
 -- ---- at one step
 
--- a unit that is marked as a reply carries that of the call that was judged, or of one that could be asked of nobody;
--- one that is marked as the reply to an opening is one that opens a channel; none is marked as a request
+-- a unit that is marked as a reply carries the reply to the call that was judged, or to one that could be asked of
+-- nobody; a unit that is marked as the reply to an opening is the reply that opens a channel; none is marked as a
+-- request
 abbrev pub CarriesTrustReply : Mark → Option Judging → List ℕ → Type 0
 CarriesTrustReply Plain j bytes = Unit {0}
 CarriesTrustReply (Opening channel number) j bytes = ⊥

@@ -41,7 +41,7 @@ pub secure_ends : (seals : Bool) (session : SessionState) (out : List ℕ) →
 unfolding secure_all
 secure_ends seals session out = ap (λ (bytes : List ℕ). Some (record { bytes = bytes; session = session })) (append-nil out)
 
--- what is left of a list, from one of its items on
+-- a list from a place on is the item there and the items behind it
 pub front_of : (items : List RpcUnit) (place : ℕ) (unit : RpcUnit) → unit ≡ get_or items place unit → place < length items →
     drop place items ≡ unit ∷ drop (place + 1) items
 front_of items place unit is within = drop_more items place unit within ∙ ap (λ u. u ∷ drop (place + 1) items) (sym is)

@@ -27,7 +27,7 @@ use Rattle.unit_security.specs.Securing.{open_in, range_by, range_if, range_of, 
 abbrev end_of : RpcUnit → ℕ
 end_of unit = length (written unit) - 24
 
--- what is signed
+-- the bytes of a unit that are signed
 abbrev front_of : RpcUnit → List ℕ
 front_of unit = take (length (written unit) - 16) (written unit)
 
@@ -36,11 +36,11 @@ range_sealed unit room =
     sealed_of-written unit room.trailer room.sends.writable room.sends.range room.sends.short room.stub room.has
     ∙ ap (λ (n : ℕ). Some (24, length (written unit) - (8 + n))) room.room
 
--- it has 48 bytes or more
+-- a unit with room for a signature has 48 bytes or more
 long : (unit : RpcUnit) → HasRoom unit → 48 ≤ length (written unit)
 long unit room = let is = sealed_of-Some (written unit) 24 (end_of unit) (range_sealed unit room) in omega (arith, is.in_order)
 
--- it is read again
+-- a unit with room for a signature is read again
 read_back : (unit : RpcUnit) → HasRoom unit → unit_of (written unit) ≡ Ok unit
 read_back unit room = unit_of-written unit room.sends.writable room.sends.range room.sends.short
 
@@ -119,7 +119,7 @@ sent_range : (unit : RpcUnit) (front value : List ℕ) → HasRoom unit → Form
 sent_range unit front value room form sixteen =
     range_by_is (front ++ value) (end_of unit) (form.sealed value sixteen) (omega (arith, length-append front value, form.size, sixteen, long unit room))
 
--- both sides cut what travels in the same place
+-- both sides cut what travels in one place
 cut_front : (unit : RpcUnit) (front value : List ℕ) → HasRoom unit → Form unit front → take (end_of unit + 8) (front ++ value) ≡ front
 cut_front unit front value room form = take_at front value (end_of unit + 8) (omega (arith, form.size, long unit room))
 
@@ -133,7 +133,7 @@ own_front unit room = ap (λ (n : ℕ). take n (written unit)) (omega (arith, lo
 with_signature : (unit : RpcUnit) (value : List ℕ) → HasRoom unit → length value ≡ 16 → front_of unit ++ value ≡ written (unit_with_value unit value)
 with_signature unit value room sixteen = value_replaced-written unit room.trailer value room.has room.room sixteen
 
--- ---- both sides
+-- ---- both sides of a session
 
 abbrev secured_at : List ℕ → SessionState → Option Secured
 secured_at bytes session = Some (record { bytes = bytes; session = session })

@@ -10,7 +10,7 @@ is_plain level = level == connect_level
 abbrev pub is_signed : ℕ → Bool
 is_signed level = level == integrity_level || level == privacy_level
 
--- their stubs are sealed too
+-- whether stubs are sealed at a level, besides being signed
 abbrev pub is_sealed : ℕ → Bool
 is_sealed level = level == privacy_level
 

@@ -19,7 +19,7 @@ pub fn is_signed(level: u8) -> bool
     level == INTEGRITY_LEVEL || level == PRIVACY_LEVEL
 }
 
-/// Whether they are sealed too (MS-RPCE 2.2.1.1.8).
+/// Whether stubs are sealed at a level, besides being signed (MS-RPCE 2.2.1.1.8).
 pub fn is_sealed(level: u8) -> bool
     ensures { result ≡ is_sealed level }
 {

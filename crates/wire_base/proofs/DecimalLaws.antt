@@ -98,7 +98,7 @@ number_of_bits_from-OkIff width (Err e) v some h =
       | inr le ↦ rw (le-ltb v (2 ^ width) le) refl
     ]
 
--- what `parse` gives at digits, as a number of so many bits
+-- what `parse` gives at digits, as a number of `width` bits
 pub result_ok-parse : {E : Type 0} (width : ℕ) (text : List ℕ) (r : Result ℕ E) → 0 < length text → list_all is_ascii_digit text ≡ true → ParsesUnsigned width 10 text r → result_ok r ≡ number_of_bits width (digits_value 10 text)
 result_ok-parse width text r some digits parsed = number_of_bits_from-OkIff width r (digits_value 10 text) some (parse_digits own width text r parsed digits)
 

@@ -13,7 +13,7 @@ pub all_by_place : {T : Type 0} (P : T → Type 0) (items : List T) → ((k : �
 all_by_place P [] each = tt
 all_by_place P (first ∷ items) each = (each zero first refl, all_by_place P items (λ k item there. each (suc k) item there))
 
--- one of them, with its place
+-- an item of which `P` holds, with its place
 pub record Placed {T : Type 0} (P : T → Type 0) (items : List T) : Type 0 where
   pub place : ℕ
   pub item : T

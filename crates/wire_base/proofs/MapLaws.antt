@@ -107,7 +107,7 @@ lookup-put_same same key value (entry ∷ entries) itself =
       | inr fail ↦ rw (fail, fail) (lookup-put_same same key value entries itself)
     ]
 
--- another key keeps its value, where no key is the same as both
+-- another key than the one that was put keeps its value, where no key is the same as both
 pub lookup-put_other : {K V : Type 0} (same : K → K → Bool) (key other : K) (value : V) (entries : List (K × V)) → ((k : K) → same key k ≡ true → same other k ≡ false) → same other key ≡ false → lookup same other (put same key value entries) ≡ lookup same other entries
 lookup-put_other same key other value [] apart differ = rw differ refl
 lookup-put_other same key other value (entry ∷ entries) apart differ =

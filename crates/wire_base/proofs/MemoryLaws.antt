@@ -11,7 +11,7 @@ pub UpToMemory-found : {T E : Type 0} (memory : E) (result value : Result T E) (
 UpToMemory-found memory (Ok x) value P holds h = holds x h
 UpToMemory-found memory (Err e) value P holds h = tt
 
--- the same answer of an equal value
+-- an answer of a value is one of an equal value
 pub UpToMemory-same : {T E : Type 0} (memory : E) (result value other : Result T E) → value ≡ other → UpToMemory memory result value → UpToMemory memory result other
 UpToMemory-same memory result value other e h = subst (UpToMemory memory result) e h
 

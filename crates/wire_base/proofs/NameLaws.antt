@@ -9,14 +9,14 @@ use Rattle.std.proofs.lemmas.Slice.Eq.{bytes_eq-Decides}
 use Rattle.wire_base.specs.Maps.{IsSameness, same_number}
 use Rattle.wire_base.specs.Names.{upper_of, upper_case, SameName, same_name, is_name_byte, IsNameByte, is_name}
 
--- ---- the same name
+-- ---- two forms of one name
 
 -- the test of `SameName`
 pub same_name-Decides : (one other : List ℕ) → Decides (same_name one other) (SameName one other)
 unfolding same_name
 same_name-Decides one other = bytes_eq-Decides (upper_case one) (upper_case other)
 
--- the same name has one length
+-- two forms of one name have one length
 pub length_from_SameName : (one other : List ℕ) → SameName one other → length one ≡ length other
 length_from_SameName one other same = sym (length-map one upper_of) ∙ ap length same ∙ length-map other upper_of
 
@@ -43,7 +43,7 @@ pub same_name-more : (one other : List ℕ) (i : ℕ) → i < length one → i <
 same_name-more one other i in_one in_other same =
     sym (same_name-at one other i in_one in_other ∙ rw (eq-eqb _ _ same) refl)
 
--- where they aren't, nor are the texts
+-- where the next units aren't the same, nor are the texts
 pub same_name-differ : (one other : List ℕ) (i : ℕ) → i < length one → i < length other → upper_of (get_or one i 0) ≢ upper_of (get_or other i 0) → same_name (drop i one) (drop i other) ≡ false
 same_name-differ one other i in_one in_other differ =
     same_name-at one other i in_one in_other ∙ rw (ne_eqb _ _ differ) refl

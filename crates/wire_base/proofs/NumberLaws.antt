@@ -109,7 +109,7 @@ pub number_at-past : (w : Width) (bytes : List ℕ) (place : ℕ) → length byt
 unfolding number_at
 number_at-past w bytes place past = rw (lt-leb _ _ past) refl
 
--- where there is one, it stands in the bytes
+-- a number that is found at a place stands in the bytes
 pub inside_from-number_at : (w : Width) (bytes : List ℕ) (place n : ℕ) → number_at w bytes place ≡ Some n → place + byte_len w ≤ length bytes
 inside_from-number_at w bytes place n found =
     elim (cases_lt (length bytes) (place + byte_len w)) [
@@ -117,12 +117,12 @@ inside_from-number_at w bytes place n found =
       | inr inside ↦ inside
     ]
 
--- and it is the number of the bytes there
+-- the number that is found at a place is that of the bytes there
 pub value_from-number_at : (w : Width) (bytes : List ℕ) (place n : ℕ) → number_at w bytes place ≡ Some n → from_le_bytes w (take (byte_len w) (drop place bytes)) ≡ n
 value_from-number_at w bytes place n found =
     let here = number_at-inside w bytes place (inside_from-number_at w bytes place n found) in cc
 
--- it fits its width
+-- the number that is found at a place fits its width
 pub number_at-lt : (w : Width) (bytes : List ℕ) (place n : ℕ) → IsMessageWidth w → AreBytes bytes → number_at w bytes place ≡ Some n → n < 256 ^ byte_len w
 number_at-lt w bytes place n wide fits found =
     rw (← value_from-number_at w bytes place n found)

@@ -64,7 +64,7 @@ AreUnits-whole_units (low ∷ []) fits i = omega arith
 AreUnits-whole_units (low ∷ high ∷ rest) fits zero = omega (arith, fits 0, fits 1)
 AreUnits-whole_units (low ∷ high ∷ rest) fits (suc i) = AreUnits-whole_units rest (λ k. fits (suc (suc k))) i
 
--- ---- both directions
+-- ---- units as bytes, and bytes as units
 
 -- an odd number of bytes is refused
 pub units_of-odd : (bytes : List ℕ) → length bytes % 2 ≡ 1 → units_of bytes ≡ Err Odd
@@ -84,7 +84,7 @@ even_from-units_of bytes units read =
       | inr even ↦ omega arith
     ]
 
--- and these units
+-- the units that bytes are read as are their whole units
 pub whole_units_from-units_of : (bytes units : List ℕ) → units_of bytes ≡ Ok units → whole_units bytes ≡ units
 whole_units_from-units_of bytes units read =
     let here = units_of-even bytes (even_from-units_of bytes units read) in cc

@@ -167,7 +167,7 @@ fn first_outside(text: &[u8]) -> Option<usize>
     text.iter().position(|byte| !matches!(*byte, 0x20..=0x7E))
 }
 
-/// The same bytes.
+/// A copy of bytes.
 fn copy_bytes(alloc: Global, bytes: &[u8]) -> Result<Vec<u8>, NoMemory>
     ensures { IfOk result (λ copy. copy.items ≡ bytes.now) }
 {

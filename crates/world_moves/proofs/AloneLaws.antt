@@ -60,7 +60,7 @@ plainly_alone end what s asks = ap (λ (step : EndStep). heard_by step s) (step_
 pub hears_so_alone : (end : EndId) (what : Event) (s : State) → IsPlain s → AsksNobody s → hear end what s ≡ hear_alone end what s
 hears_so_alone end what s plain asks = hears_so_plainly end what s plain ∙ plainly_alone end what s asks
 
--- ---- it stays so
+-- ---- a world in which nobody is asked stays one
 
 asked_put : (hands_on : Bool) (controllers : List ControllerState) (at : ℕ) (new : ControllerState) → NobodyIsAsked hands_on controllers →
     new.trusting ≡ no_trusting → TrustsNobody hands_on new.table → NobodyIsAsked hands_on (slice_set controllers at new)
@@ -102,7 +102,7 @@ step_asks hands_on what now ends chances asks end =
 pub hears_asks : (end : EndId) (what : Event) (s : State) → AsksNobody s → AsksNobody (hear_plain end what s).state
 hears_asks end what s asks = step_asks s.hands_on what s.moment s.ends s.chances asks end
 
--- so does making an end anew that can't seal
+-- making an end anew that can't seal leaves a world in which nobody is asked
 pub renew_asks : (end : EndId) (s : State) → AsksNobody s → AsksNobody (renewed_plain end s)
 renew_asks end s asks =
     renew_plain_by (λ (one : EndId) (ends : EndStates). NobodyIsAsked s.hands_on ends.controllers) s (λ one. asks)
@@ -112,7 +112,7 @@ renew_asks end s asks =
     (subst (λ (table : AccountTable). TrustsNobody s.hands_on table) (sym (fresh_table s.hands_on c.table c.name)) (asks.anew at c is)))
     (λ at plan is. asks) (λ at plan is. asks) end
 
--- and a change of a secret that begins
+-- beginning to change a secret leaves a world in which nobody is asked
 pub change_asks : (at : ℕ) (secret : List ℕ) (s : State) → AsksNobody s → AsksNobody (record s { ends = (end_change at secret s.ends).ends })
 change_asks at secret s asks = by_change (λ (ends : EndStates) (actions : List Action). NobodyIsAsked s.hands_on ends.controllers) at secret s.ends asks (λ running is none. asks)
 
@@ -180,7 +180,7 @@ plain_plan plan unsealed is =
 pub alone_if : (plan : Plan) → NothingSeals plan → plan.hands_on ≡ false → IsPlainAlone plan
 alone_if plan plain is = record { plain = plain; alone = plain_plan plan plain.controllers is }
 
--- its tables trust nobody, or its controllers aren't to ask
+-- the tables of a plan trust nobody, or its controllers aren't to ask
 pub trusts_nobody : (plan : Plan) → IsPlainAlone plan → AllByRecursion (TrustsNobody plan.hands_on) plan.tables
 trusts_nobody plan is = subst (λ (seals : Bool). AllByRecursion (TrustsNobody (seals || plan.hands_on)) plan.tables) is.plain.controllers is.alone
 

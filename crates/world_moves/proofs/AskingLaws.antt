@@ -53,8 +53,8 @@ abbrev pub due_on : Option Talk → ℕ
 due_on None = 0
 due_on (Some talk) = can_ask talk.phase
 
--- no more is told and can be told than before, and so many
-abbrev pub Adds : ℕ → AtLink → Served → Type 0
+-- what is told and can be told grows by at most `most`
+abbrev pub Adds : (most : ℕ) → AtLink → Served → Type 0
 Adds most at served = due_at served.0 + due_on served.1 ≤ due_at at + most
 
 abbrev pub AddsPart : ℕ → AtLink → ServedPart AtLink Talk → Type 0
@@ -258,7 +258,7 @@ opens_due : (most : ℕ) (full : Bool) (link : ℕ) (w : Work) → due_in w ≤ 
 opens_due most true link w few = omega (arith, few, told_more w.actions (action.Close link close.TooManyLinks))
 opens_due most false link w few = omega (arith, few, ask_put link fresh_link w.links)
 
--- but a link that opens
+-- an event that opens no link isn't the opening of one
 not_opened : (what : Event) (link : ℕ) → opens_at what ≡ 0 → what ≡ event.Opened link → ⊥
 not_opened what link none is = let one = sym none ∙ ap opens_at is in cc
 

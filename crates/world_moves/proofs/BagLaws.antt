@@ -70,7 +70,7 @@ piece_off pieces rest piece after all so_far is size some =
     ∙ ap (λ (more : List (List ℕ)). pieces ++ more) (sym (pieces_more rest some ∙ ap (λ p. p ∷ pieces_of (drop piece_limit rest)) front ∙ ap (λ r. piece ∷ pieces_of r) back))
     ∙ so_far
 
--- the same of a chunk, whose size is that limit
+-- a chunk is taken off the bytes that are left, where its size is the limit of a piece
 pub chunk_off : (pieces : List (List ℕ)) (rest piece after : List ℕ) (all : List (List ℕ)) (size : ℕ) → pieces ++ pieces_of rest ≡ all → size ≡ piece_limit →
     (rest ≡ piece ++ after) × (length piece ≡ min size (length rest)) × (0 < length rest) → (pieces ++ piece ∷ []) ++ pieces_of after ≡ all
 chunk_off pieces rest piece after all size so_far is steps =

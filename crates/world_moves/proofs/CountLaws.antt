@@ -65,7 +65,7 @@ add_more c actions later = same_counts _ _
     (one_more (judges is_passed) c.passed actions later)
     (one_more (judges is_barred) c.barred actions later)
 
--- no action changes nothing: so it is of counts that stand within their type
+-- adding no action changes nothing, of counts that stand within their type
 unfoldable pub Still : Counts → Type 0
 Still c = add_counts c (counts_of []) ≡ c
 
@@ -139,7 +139,7 @@ then_right s a later first second = record {
       ∙ ap (λ all. add_counts s.counts (counts_of all)) (sym (counted_append a.given (later a.state).given));
 }
 
--- the same world, whatever it counts from
+-- what is right from one world is right from another with the same counts
 from_same : (s t : State) (a : Acted) → t.counts ≡ s.counts → Right t a → Right s a
 from_same s t a same right = record { counts = right.counts ∙ ap (λ c. add_counts c (counts_of (counted_given a.given))) same }
 

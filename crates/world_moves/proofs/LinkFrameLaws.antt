@@ -49,9 +49,9 @@ pub record StaysAlways (Fits : LinkFact) : Type 0 where
   pub forgets : (end : EndId) (links : List Route) (map : OpenMap) (bag : List BagUnit) → Fits links map bag → Fits links (forget_end end map) bag
   pub settles : (number : ℕ) (links : List Route) (map : OpenMap) (bag : List BagUnit) → Fits links map bag → Fits links map (settle_at number bag)
 
--- ---- so it holds through actions, and through moves
+-- ---- a fact of links holds through actions, and through moves
 
--- it holds later where it does before
+-- a fact of links holds later where it holds before
 abbrev Holds : LinkFact → StateFact
 Holds Fits s after = FitsIn Fits s → FitsIn Fits after
 

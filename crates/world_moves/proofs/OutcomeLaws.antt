@@ -35,7 +35,7 @@ pub stays_set : (clients : List ClientState) (at : ℕ) (old new : ClientState) 
     OutcomesStay clients (slice_set clients at new)
 stays_set clients at old new there stays = record { each = set_keeps clients at old new there stays }
 
--- ---- where it isn't made
+-- ---- outcomes that were told
 
 -- what was told of a client is whether it had its outcome
 told_at : (clients : List ClientState) (at : ℕ) → is_told (slice_get (map has_its_outcome clients) at) ≡ has_outcome (outcome_at clients at)

@@ -76,7 +76,7 @@ renews_plainly (Member at) s plain =
     member_anew (slice_get s.member_plans at) at s.ends (of_found IsUnsealed s.member_plans at (slice_get s.member_plans at) refl (plain.each_plan at))
 renews_plainly (Client at) s plain = refl
 
--- ---- it stays so
+-- ---- a world in which nothing seals stays one
 
 -- what holds of each of a list holds on where one is put in a place of which it holds
 pub put_each : {T : Type 0} (P : T → Type 0) (items : List T) (at : ℕ) (item : T) → ((k : ℕ) (one : T) → slice_get items k ≡ Some one → P one) → P item →

@@ -144,7 +144,7 @@ beside_few : (most : ℕ) (queues : Queues) (part : ServedPart Desk Talk) → Te
 beside_few most queues (Err why) few = tt
 beside_few most queues (Ok part) few = few
 
--- whether it is handed on or answered here
+-- a call tells at most one thing more, whether it is handed on or answered here
 pub call_few : (c : JudgedCall) (line : Line) (before after : TrustDesk) → CallComes c line before after →
     told_by after.work.work.actions ≤ told_by before.work.work.actions + 1
 call_few c line before after (ForwardedOn is so) = omega (arith, ap told_by so.actions, told_more before.work.work.actions (action.Judged judged.Forwarded))
@@ -208,7 +208,7 @@ units_few name now link =
     stream_few told_at (trust_server name now link) (λ bytes d talk left. unit_few (hear link bytes talk) link name now d left)
     (λ why d talk left. omega (arith, told_more d.work.work.actions (action.Close link close.BadUnit)))
 
--- ---- its links
+-- ---- the links of a controller
 
 rest_if : (hit : Bool) (entry : ℕ × LinkState Talk) (links rest : LinkMap) (found : Option (LinkState Talk)) (link : LinkState Talk) →
     (if hit then Some entry.1 else found) ≡ Some link → (found ≡ Some link → rests_on rest + length link.rest ≤ rests_on links) →

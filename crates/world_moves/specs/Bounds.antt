@@ -26,15 +26,15 @@ unit_draws = 9 * piece_draws
 abbrev pub draw_limit : ℕ
 draw_limit = unit_draws + 2782
 
--- At most so many challenges were drawn from the one state to the other, and three more for each link that isn't open
--- any more: where an end closes it, the end at its other side hears of it, and may draw so many.
-abbrev pub DrawsWithin : ℕ → State → State → Type 0
+-- At most `most` challenges were drawn from the one state to the other, and three more for each link that isn't open
+-- any more: where an end closes it, the end at its other side hears of it, and may draw three.
+abbrev pub DrawsWithin : (most : ℕ) → State → State → Type 0
 DrawsWithin most old new =
     length old.chances.left + 3 * length new.open_links ≤ length new.chances.left + 3 * length old.open_links + most
 
--- Challenges are left for so many moves, whichever they are: what each draws at most, and three for each link that is
+-- Challenges are left for `moves` moves, whichever they are: what each draws at most, and three for each link that is
 -- open now and may be closed in one of them.
-abbrev pub HasChallengesFor : ℕ → State → Type 0
+abbrev pub HasChallengesFor : (moves : ℕ) → State → Type 0
 HasChallengesFor moves s = draw_limit * moves + 3 * length s.open_links ≤ length s.chances.left
 
 -- At most 100,000 moves are made. A move makes one link at most, draws so many of the challenges at most, and tells no

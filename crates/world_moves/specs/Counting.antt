@@ -75,8 +75,8 @@ add_counts one other = record {
   barred = clipped (one.barred + other.barred);
 }
 
--- A report of so many moves that were made tells of each kind of action exactly how many of these there are: no count
--- has come to its type's end.
+-- A report of `made` moves tells of each kind of action exactly how many of these there are: no count has come to its
+-- type's end.
 pub record AreCounted (report : Report) (actions : List Action) (made : ℕ) : Type 0 where
   pub moves : report.moves ≡ made
   pub accepted : report.accepted ≡ count_by (tells is_in) actions

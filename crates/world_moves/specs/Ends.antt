@@ -153,7 +153,7 @@ abbrev pub actions_begun : Result (List Action) ChangeRefused → List Action
 actions_begun (Ok actions) = actions
 actions_begun (Err why) = []
 
--- a member has been told so: its actions, and the member afterwards
+-- a member began to change its secret: its actions, and the member afterwards
 pub record HasChanged (given : List Action) (before : MemberState) (secret : List ℕ) (after : MemberState) : Type 0 where
   pub member : after ≡ (change_of before secret).state
   pub actions : given ≡ actions_begun (change_of before secret).answer

@@ -28,7 +28,7 @@ IsJudgedAlone plan moves = HandsNothingOn plan ⊎ IsUnforwarded plan moves
 abbrev pub alone_plan : Plan → Plan
 alone_plan plan = record plan { hands_on = false }
 
--- ---- the same but for what controllers keep of those that could be asked
+-- ---- states but for what controllers keep of those that could be asked
 
 abbrev pub erased_controller : ControllerState → ControllerState
 erased_controller c = record c { trusting = no_trusting }

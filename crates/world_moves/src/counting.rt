@@ -83,7 +83,7 @@ fn counted_of(end: EndId, actions: &[Action]) -> &[Action]
     if is_counted(end) { actions } else { &[] }
 }
 
-/// A count and so many more, which stands still at the end of its type.
+/// A count and `more`, which stands still at the end of its type.
 fn add_up(count: u32, more: usize) -> u32
     ensures { result ≡ clipped (count + clipped more) }
 {

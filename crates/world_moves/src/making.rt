@@ -86,7 +86,7 @@ fn first_ends(
     Ok(Ends::new(controllers, members, clients))
 }
 
-/// Whether so many ends can be numbered.
+/// Whether as many ends can be numbered as controllers, members and clients are.
 fn can_be_numbered(controllers: usize, members: usize, clients: usize) -> bool
     ensures { result ≡ true → controllers + members + clients < 2 ^ 64 }
 {

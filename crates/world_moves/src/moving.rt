@@ -471,7 +471,7 @@ fn between_if(is_itself: bool, from: usize, to: usize) -> Option<Route>
     }
 }
 
-/// The moment after so many units of time.
+/// The moment `more` units of time after `now`.
 fn moment_after(more: u64, now: u64) -> u64
     ensures { result ≡ moment_after more now }
 {

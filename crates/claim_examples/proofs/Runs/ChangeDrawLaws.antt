@@ -21,7 +21,7 @@ change_draws =
     ∷ 0x6E7DB0DB2A8E8FD1 ∷ 0x505880877822E015 ∷ 0x0D9A52EF7E11C55B ∷ 0x52A825F8AD636A4B ∷ 0xD53AD448353CDE0D ∷ 0xE3719D91B9D544C7
     ∷ 0x9DEFD6A5E7ADA4BE ∷ 0xC541283C5DA46A0B ∷ 0xA500530364590666 ∷ 0x2572208246DB6348 ∷ 0xD33B25F9506CCF92 ∷ 0xD05A3F53AED840ED ∷ [])
 
--- so many challenges under a key, from a count on
+-- challenges under a key from `count` on, as many as `more`
 abbrev creds : (key : List ℕ) (count more : ℕ) → List (List ℕ)
 creds key count zero = []
 creds key count (suc more) = cred_of key (to_le_bytes w64 (0 + count)) ∷ creds key (count + 1) more
@@ -30,7 +30,7 @@ creds_so : creds maker_key 0 18 ≡ change_draws
 unfolding cred_of des_of spread_of permuted combined number_bits number_of bits_of bytes_of box_place substituted substitutions mixed rounds cipher round_keys round_keys_from xor
 creds_so = refl
 
--- those that are left behind so many are the later ones
+-- the challenges behind the first `more` are the later ones
 drawn_under : (seed : List ℕ) (count more rest : ℕ) → challenges_from seed 0 count (more + rest) ≡ creds (maker_key_of seed) count more ++ challenges_from seed 0 (count + more) rest
 unfolding challenge_of challenges_from
 drawn_under seed count zero rest =
@@ -44,7 +44,7 @@ drawn_under seed count (suc more) rest =
     ∙ ap (λ (left : List (List ℕ)). cred_of (maker_key_of seed) (to_le_bytes w64 (0 + count)) ∷ left)
     (drawn_under seed (count + 1) more rest ∙ ap (λ (from : ℕ). creds (maker_key_of seed) (count + 1) more ++ challenges_from seed 0 from rest) behind)
 
--- what is left behind them
+-- the challenges that are left behind the 18 that are drawn
 abbrev pub left_behind : List (List ℕ)
 left_behind = challenges_from changing_plan.seed 0 18 (most_draws - 18)
 

@@ -100,7 +100,7 @@ use Rattle.claim_examples.proofs.Runs.JudgedOnLaws.{HearsNoCall, OnlyTravels, tr
 use Rattle.domain_world.proofs.Clear.NotedLaws.{Fine, Leads, Trail, then_on, world_at}
 use Rattle.domain_world.proofs.Completeness.UnitNotedLaws.{Came, comes_so}
 use Rattle.domain_world.proofs.Moves.MemberPlanLaws.{found_but_secret}
-use Rattle.domain_world.proofs.Accepting.LetInLaws.{lets_in_who_asked}
+use Rattle.domain_world.proofs.Acceptance.LetInLaws.{lets_in_who_asked}
 use Rattle.claim_examples.proofs.SequenceLaws.{one_apart}
 use Rattle.claim_examples.proofs.Runs.SharedChannelLaws.{shared_channel}
 use Rattle.claim_examples.proofs.Runs.ToldLaws.{LetsIn, lets_in, stays_told}
@@ -386,7 +386,7 @@ module _ (plan : Plan) (client member controller : ℕ) (can : CanComeIn plan cl
       ∙ ap (λ (hash : List ℕ). base_key_of hash can.task.user (info_asked j a).domain (info_asked j a).nt) (ap hash_in can.found ∙ can.hash)
       ∙ ap (λ (domain : List ℕ). base_key_of can.task.hash can.task.user domain (info_asked j a).nt) names.0
 
-  -- where it doesn't travel as zeros, no key of the run does
+  -- where the key of ann's logon doesn't travel as zeros, no key of the run does
   pub keys_arrive : (KeyTravels key (base_key can.task (message_for j a)) → ⊥) →
       AllByRecursion NoKeyIsLost (past plan (logon_moves number (can.task.echo == 0))).book.judged
   keys_arrive never =

@@ -39,7 +39,8 @@ judged_still s unit later end none came k b =
 abbrev pub OnlyTravels : (key base : List ℕ) → List Judging → Type 0
 OnlyTravels key base judged = AllByRecursion (λ (j : Judging). IfNetwork (λ (c : LogonCall). TravelsAsZeros j c.info → KeyTravels key base) j.asked) judged
 
--- it is the key of the client's answer under the key of its member's channel, where the call is checked on that channel
+-- a key that travels as zeros is that of the client's answer under the key of its member's channel, where the call is
+-- checked on that channel
 pub travels_so : (j : Judging) (info : NetworkInfo) (o state : SecureChannelState) (computer : List ℕ) → has_passed j.how ≡ true → computer_named j.asked ≡ Some computer →
     j.checks ≡ Some state → key_of_channel state ≡ key_of_channel o → TravelsAsZeros j info → KeyTravels (key_of_channel o) (base_key_asked j info)
 travels_so j info o state computer passed named found same zeros =

@@ -35,7 +35,7 @@ use Rattle.claim_examples.specs.ClearRuns.{HasSharedChannel}
 use Rattle.step_notes.specs.Records.{OfMember}
 use Rattle.domain_world.proofs.Moves.MemberPlanLaws.{controllers_alike}
 
--- ---- a member's controller stays so
+-- ---- a member keeps its controller
 
 same_ends : (moves : List Move) (w : World) → HasSameEnds w.state (run moves w).state
 same_ends [] w = ends_stay.none w.state

@@ -49,7 +49,7 @@ use Rattle.domain_world.specs.Accepting.Runs.{IsOfMember}
 use Rattle.domain_world.specs.Claims.Openings.{IsLastAccepted}
 use Rattle.domain_world.specs.Past.{Delivery, at_controller}
 use Rattle.domain_world.proofs.Frames.AloneNoteLaws.{alone_answers as answers_of}
-use Rattle.domain_world.proofs.Accepting.Heard.JudgedUnitLaws.{IsWholeCarried}
+use Rattle.domain_world.proofs.Acceptance.Heard.JudgedUnitLaws.{IsWholeCarried}
 use Rattle.domain_world.proofs.Quiet.QuietListenLaws.{ListensWell, WellUnlessStopped, entries_found}
 use Rattle.domain_world.proofs.Quiet.QuietStepLaws.{IsMade}
 use Rattle.domain_world.proofs.Judgements.ChainLaws.{judged_judging, opening_judging}

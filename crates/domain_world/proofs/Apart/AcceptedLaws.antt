@@ -19,7 +19,7 @@ use Rattle.domain_world.specs.Claims.OpeningReplies.{AnswersOpening, IsMarkedAsO
 use Rattle.domain_world.specs.Claims.Openings.{IsLastAccepted, is_opened_for, last_accepted, newer_if}
 use Rattle.domain_world.specs.Past.{Past, past}
 use Rattle.domain_world.specs.Schedules.{OfSchedules}
-use Rattle.domain_world.proofs.Accepting.MarkRunLaws.{openings_marked}
+use Rattle.domain_world.proofs.Acceptance.MarkRunLaws.{openings_marked}
 use Rattle.domain_world.proofs.Judgements.Openings.OpeningAnswerLaws.{replies_to_openings}
 use Rattle.domain_world.proofs.Judgements.Openings.OpeningRunLaws.{openings_in_order}
 use Rattle.domain_world.proofs.Calls.CallHoldsLaws.{mark_there, marks_in}

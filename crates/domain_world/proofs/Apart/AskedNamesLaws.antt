@@ -13,9 +13,9 @@ use Rattle.wire_base.proofs.ListLaws.{some_is}
 use Rattle.step_notes.specs.Records.{Book, Sent}
 use Rattle.world_moves.specs.declared.bag.BagUnit.{BagUnit}
 use Rattle.domain_world.specs.Accepting.Carried.{IsWholeUnit, call_carried, call_judged}
-use Rattle.domain_world.proofs.Accepting.CarriedLaws.{one_whole}
-use Rattle.domain_world.proofs.Accepting.Heard.MarkSentLaws.{AreItsNames, HasItsNames, IsCallSent, IsOpeningSent}
-use Rattle.domain_world.proofs.Accepting.Heard.MarkWholeLaws.{MarksFit, OfMark}
+use Rattle.domain_world.proofs.Acceptance.CarriedLaws.{one_whole}
+use Rattle.domain_world.proofs.Acceptance.Heard.MarkSentLaws.{AreItsNames, HasItsNames, IsCallSent, IsOpeningSent}
+use Rattle.domain_world.proofs.Acceptance.Heard.MarkWholeLaws.{MarksFit, OfMark}
 use Rattle.domain_world.proofs.Apart.TogetherAsksLaws.{sent_asks}
 use Rattle.domain_world.proofs.Frames.BagFrameLaws.{IsOfUnit}
 use Rattle.domain_world.proofs.Moves.MarkPlaceLaws.{got_map}

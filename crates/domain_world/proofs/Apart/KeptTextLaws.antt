@@ -133,7 +133,7 @@ pub record KeepsSo (m : ℕ) (rest : Given) (plans : List MemberPlan) (members :
   pub held : (own : MemberPlan) (st : MemberState) (running : Running) → slice_get plans m ≡ Some own → slice_get members m ≡ Some st → st.running ≡ Some running →
       IsHeldAs m rest own.secrets running
 
--- another end takes a step, or another member
+-- the texts of a member stay where another end or another member takes a step
 pub other_steps : (m : ℕ) (end : EndId) (actions : List Action) (rest : Given) (plans : List MemberPlan) (members later : List MemberState) → same_end end (Member m) ≡ false →
     ((st : MemberState) → slice_get later m ≡ Some st → slice_get members m ≡ Some st) → KeepsSo m rest plans members → KeepsSo m (given_by end actions ++ rest) plans later
 other_steps m end actions rest plans members later differs before keeps = record {

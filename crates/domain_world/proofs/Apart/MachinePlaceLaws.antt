@@ -82,7 +82,7 @@ found_at : (accounts : List Account) (test : Account → Bool) (at : ℕ) (found
 found_at accounts test at None is = absurd (no_some at is)
 found_at accounts test at (Some place) is = ap Some (then_at (option_map_or test (slice_get accounts place) false) place at is)
 
--- it is the one of that name
+-- the place of a machine's account is that of its name
 pub named_place : (accounts : List Account) → has_distinct_names accounts ≡ true → (name : List ℕ) (kind : ℕ) (computer : List ℕ) (at : ℕ) → machine_in accounts name kind computer ≡ Some at →
     place_of (has_name name) accounts ≡ Some at
 unfolding machine_in

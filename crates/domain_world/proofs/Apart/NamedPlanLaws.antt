@@ -40,8 +40,8 @@ use Rattle.world_moves.specs.Moving.{begun, changed, with_link}
 use Rattle.world_moves.proofs.ChangeLaws.{by_change, member_begun}
 use Rattle.world_moves.proofs.KeptLaws.{plans_alike}
 use Rattle.wire_base.proofs.ListLaws.{some_is}
-use Rattle.domain_world.proofs.Accepting.Turns.TurnFactLaws.{SameEnds}
-use Rattle.domain_world.proofs.Accepting.Turns.TurnQuietLaws.{change_same, hear_same, renew_same, same_ends}
+use Rattle.domain_world.proofs.Acceptance.Turns.TurnFactLaws.{SameEnds}
+use Rattle.domain_world.proofs.Acceptance.Turns.TurnQuietLaws.{change_same, hear_same, renew_same, same_ends}
 use Rattle.domain_world.proofs.Messages.MessageOnceLaws.{set_cases}
 use Rattle.domain_world.proofs.Moves.MarkPlaceLaws.{got_map}
 use Rattle.domain_world.proofs.Moves.MemberPlanLaws.{found_but_secret}

@@ -20,7 +20,7 @@ use Rattle.domain_world.specs.Claims.{IsClear}
 use Rattle.domain_world.specs.Claims.NeverApart.{BeginsAlike, HasItsAccount, MembersAreNeverApart, has_foreign_set}
 use Rattle.domain_world.specs.Past.{Delivery, note_member, past}
 use Rattle.domain_world.specs.Accepting.SeenSteps.{Differ}
-use Rattle.domain_world.proofs.Accepting.Heard.MarkWholeLaws.{MarksFit, marks_fit}
+use Rattle.domain_world.proofs.Acceptance.Heard.MarkWholeLaws.{MarksFit, marks_fit}
 use Rattle.domain_world.proofs.Apart.HappeningLaws.{account_there}
 use Rattle.domain_world.proofs.Apart.TogetherAsksLaws.{asks_in}
 use Rattle.domain_world.proofs.Apart.TogetherBesideLaws.{Beside, beside_has, beside_keep, first_beside}

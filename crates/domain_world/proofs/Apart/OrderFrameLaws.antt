@@ -34,7 +34,7 @@ use Rattle.domain_world.specs.Accepting.SeenSteps.{Differ, requests_after}
 use Rattle.domain_world.specs.Claims.OrderedSteps.{SuitsIfTaken}
 use Rattle.domain_world.specs.Past.{Delivery, controller_asked, marks_of, note_client, note_given, note_member, note_messages, other_marks, sent_at}
 use Rattle.domain_world.proofs.Frames.AloneNoteLaws.{note_alone as note_at, note_controller_alone as note_controller}
-use Rattle.domain_world.proofs.Accepting.LetInStepLaws.{IsDialledBy, Meets, MeetsMember}
+use Rattle.domain_world.proofs.Acceptance.LetInStepLaws.{IsDialledBy, Meets, MeetsMember}
 use Rattle.domain_world.proofs.Apart.OrderStayLaws.{order_anew, order_changes, order_clients, order_controllers, order_member, order_other, order_sent, order_steps}
 use Rattle.domain_world.proofs.Apart.OrderToldLaws.{Told, asked, client_earlier, controller_earlier, controller_order, given_earlier, member_earlier, told_before}
 use Rattle.domain_world.proofs.Apart.StepOrderLaws.{step_in_order}
@@ -133,7 +133,7 @@ module _ (base : Asker) where
     abbrev OrderBy : List (ServedUnit AtTurn TurnTalk) → Type 0
     OrderBy served = InOrder (requests_at (n + 1) s.member_plans step.ends step.chances.drawn (b.sent ++ more served)) (asked base b.accepted)
 
-    -- as it is written down
+    -- order, by what is written down
     noted_order : OrderBy units → InOrder (requests_at (n + 1) s.member_plans step.ends step.chances.drawn now.sent) (asked base now.accepted)
     noted_order order =
         subst (λ (accepted : List ChannelAccepted). InOrder (requests_at (n + 1) s.member_plans step.ends step.chances.drawn now.sent) (asked base accepted))

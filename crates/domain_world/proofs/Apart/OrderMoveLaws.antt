@@ -31,9 +31,9 @@ use Rattle.domain_world.specs.Claims.OpeningReplies.{IsReplyOfOpening}
 use Rattle.domain_world.specs.Claims.AcceptedOpenings.{AsksAlone, MembersOpenInOrder}
 use Rattle.domain_world.specs.Past.{Delivery, past}
 use Rattle.domain_world.specs.Schedules.{OfSchedules}
-use Rattle.domain_world.proofs.Accepting.Heard.JudgedRunLaws.{judged_first, judged_keeps}
-use Rattle.domain_world.proofs.Accepting.Heard.JudgedUnitLaws.{IsCarriedCall, IsJudgedWell, JudgedFact}
-use Rattle.domain_world.proofs.Accepting.LetInStepLaws.{calm_meets, last_accepted, side_meets}
+use Rattle.domain_world.proofs.Acceptance.Heard.JudgedRunLaws.{judged_first, judged_keeps}
+use Rattle.domain_world.proofs.Acceptance.Heard.JudgedUnitLaws.{IsCarriedCall, IsJudgedWell, JudgedFact}
+use Rattle.domain_world.proofs.Acceptance.LetInStepLaws.{calm_meets, last_accepted, side_meets}
 use Rattle.domain_world.proofs.Quiet.QuietRunLaws.{has_bytes, is_quiet, quiet_first, quiet_keeps}
 use Rattle.domain_world.proofs.Quiet.QuietStepLaws.{QuietAction, QuietFact}
 use Rattle.domain_world.proofs.Apart.NamedPlanLaws.{NamesFact, NamesStand, first_names, names_keep}

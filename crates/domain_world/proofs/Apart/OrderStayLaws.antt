@@ -123,14 +123,14 @@ module _ (n : ℕ) (plans : List MemberPlan) (ends : EndStates) (at : ℕ) (sent
   abbrev its : ℕ
   its = controller_of_plan (slice_get plans at) ends
 
-  -- of it the order is given
+  -- a member that changed stays in order where the order of its own view is given
   pub order_member : (new : MemberState) (later uses : ℕ) (after : List (List ℕ)) (more : List Sent) →
       InOrder (requests_after (views_at plans ends) at its new.running (marks_in more) after uses) a → InOrder (requests_at later plans (with_new plans ends at new) after more) a
   order_member new later uses after more order =
       order_seen (λ j. seen_or (j == at) (seen_running its new.running) (views_at plans ends j)) (views_at plans (with_new plans ends at new)) (marks_in more) after after uses (2 * later) a
       (seen_after plans ends at new) order
 
-  -- it takes a step at which no whole unit comes on the link of its turn
+  -- a member takes a step at which no whole unit comes on the link of its turn
   pub order_steps : (links : List Route) (messages : List MessageTaken) (m : MemberState) (what : Event) (now : ℕ) (chances : Drawing) → slice_get ends.members at ≡ Some m →
       HearsNone m.running what → n + 1 ≤ most_steps → Differ (chances.drawn ++ (step_of m what now chances.left).drawn) → CallsHold n plans ends chances.drawn links sent messages →
       InOrder (requests_at n plans ends chances.drawn sent) a →
@@ -141,7 +141,7 @@ module _ (n : ℕ) (plans : List MemberPlan) (ends : EndStates) (at : ℕ) (sent
       (step_in_order.other (requests_at n plans ends chances.drawn sent) at its a m.running what now chances.left (omega (arith, few)) hears
       (record { at = ap (λ (x : Option MemberState). seen_member its x) is; coherent = coherent_if m.running own.asks; apart = holds.apart; order = order }) differ)
 
-  -- it is made anew
+  -- a member is made anew
   pub order_anew : (links : List Route) (messages : List MessageTaken) (plan : MemberPlan) (drawn : List (List ℕ)) → InOrder (requests_at n plans ends drawn sent) a →
       InOrder (requests_at n plans (with_member at (fresh_member plan) ends) drawn sent) a
   order_anew links messages plan drawn order =
@@ -158,7 +158,7 @@ module _ (n : ℕ) (plans : List MemberPlan) (ends : EndStates) (at : ℕ) (sent
         ];
       })
 
-  -- it begins to change its secret
+  -- a member begins to change its secret
   pub order_changes : (links : List Route) (messages : List MessageTaken) (secret : List ℕ) (running : Running) (drawn : List (List ℕ)) →
       slice_get ends.members at ≡ Some (record { running = Some running }) → InOrder (requests_at n plans ends drawn sent) a →
       InOrder (requests_at (n + 1) plans (with_member at (member_begun secret running) ends) drawn sent) a

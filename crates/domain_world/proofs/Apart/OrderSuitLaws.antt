@@ -37,9 +37,9 @@ use Rattle.domain_world.specs.Claims.AcceptedOpenings.{accepted_in, is_in_unit}
 use Rattle.domain_world.specs.Claims.OpeningReplies.{IsAcceptedIn as IsAcceptedReply, IsReplyOfOpening}
 use Rattle.domain_world.specs.Claims.OrderedSteps.{Suits, SuitsIfTaken}
 use Rattle.domain_world.specs.Past.{Delivery, controller_asked, note_member, note_messages, note_turns}
-use Rattle.domain_world.proofs.Accepting.LetInStepLaws.{IsDialledBy}
-use Rattle.domain_world.proofs.Accepting.Turns.TurnNotedLaws.{IsMadeFor, turn_noted, unclashed}
-use Rattle.domain_world.proofs.Accepting.Turns.TurnSideLaws.{comes_back}
+use Rattle.domain_world.proofs.Acceptance.LetInStepLaws.{IsDialledBy}
+use Rattle.domain_world.proofs.Acceptance.Turns.TurnNotedLaws.{IsMadeFor, turn_noted, unclashed}
+use Rattle.domain_world.proofs.Acceptance.Turns.TurnSideLaws.{comes_back}
 use Rattle.domain_world.proofs.Apart.OrderFrameLaws.{AllSuit}
 use Rattle.domain_world.proofs.Apart.OrderToldLaws.{IsAnsweredIn, IsCallingOf, Told, asked, member_earlier, told_before}
 use Rattle.domain_world.proofs.Moves.ComingLaws.{CameFrom, CameInUnit, IsPieceOf, came_in_unit}
@@ -96,7 +96,7 @@ module _ (base : Asker) (r : Requests ℕ) (s : State) (b : Book) (known : Suits
       (order.called request call.number call.timestamp call.named
       (subst (λ (all : List Mark). slice_get all request ≡ Some (Calling call.named call.number call.timestamp)) (sym marks) (at.1 ∙ ap (λ (m : Mark). Some m) call.is)))
 
-  -- where it doesn't clash with the mark of the unit that comes back
+  -- an opening suits where it doesn't clash with the mark of the unit that comes back
   opens_suit : (n : ℕ) (unit : BagUnit) (c : ChannelIdentity) → slice_get s.bag n ≡ Some unit → unit.back ≡ true → clashes (Some c) (Some n) b.sent ≡ false → IsAcceptedIn (accepted_in b.accepted) c
   opens_suit n unit c there back none =
       let made : IsMadeFor c n b.sent = unclashed c n b.sent none in
@@ -174,7 +174,7 @@ module _ (base : Asker) (n at : ℕ) (w : Delivery) (piece : List ℕ) (s after 
       (steps_are_noted.take its channel whole.unit own.asks.coherent) piece_of.unit in_unit.number piece_of.there (piece_of.back ∙ comes_back s.links at w.link w.back dialled side)
       (subst (λ (unit : Option ℕ). clashes note.checked unit b.sent ≡ false) (ap unit_in in_unit.is) (clash_here part is none))
 
--- so does what any member takes
+-- what any member takes suits
 pub all_suit : (base : Asker) → AllSuit base (SuitSide base)
 all_suit base n at w piece s after given b running whole there side came even holds known told order =
     suits_by base n at w piece s after b running whole there (known even) (told_before b (note_member (Some (record { running = Some running })) at w piece s after b)

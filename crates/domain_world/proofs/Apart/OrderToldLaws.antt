@@ -29,8 +29,8 @@ use Rattle.domain_world.specs.Claims.AcceptedOpenings.{accepted_in, is_in_unit}
 use Rattle.domain_world.specs.Claims.Openings.{IsUnused}
 use Rattle.domain_world.specs.Past.{Delivery, accepted_of, any_clash, at_controller, at_member, first_of, is_sent_on, judged_of, later_of, marks_of, note_client, note_given, note_member, note_messages, number_sent, numbers_on, onto, other_marks, replied_with, sent_at, with_reply}
 use Rattle.domain_world.proofs.Frames.AloneNoteLaws.{alone_answers as answers_of, note_controller_alone as note_controller}
-use Rattle.domain_world.proofs.Accepting.Turns.TurnNotedLaws.{or_false}
-use Rattle.domain_world.proofs.Accepting.Turns.TurnSideLaws.{turns_clash}
+use Rattle.domain_world.proofs.Acceptance.Turns.TurnNotedLaws.{or_false}
+use Rattle.domain_world.proofs.Acceptance.Turns.TurnSideLaws.{turns_clash}
 use Rattle.domain_world.proofs.Apart.OrderStayLaws.{order_controllers, order_sent}
 use Rattle.domain_world.proofs.Messages.MessageApartLaws.{links_append, links_in, turns_links}
 use Rattle.domain_world.proofs.Moves.ComingLaws.{CameFrom, IsPieceOf, place_in}
@@ -86,7 +86,7 @@ pub record Told (b : Book) : Type 0 where
   -- the request of a reply to a call, if it has a mark, was made as a call on its channel
   pub replies : (n number request : ℕ) (c : ChannelIdentity) (mark : Mark) → slice_get (marks_in b.sent) n ≡ Some (ReplyTo c number request) →
       slice_get (marks_in b.sent) request ≡ Some mark → IsCallingOf mark c
-  -- and it was judged
+  -- the call of a reply was judged
   pub judged : (n number request : ℕ) (c : ChannelIdentity) → slice_get (marks_in b.sent) n ≡ Some (ReplyTo c number request) → OneOf (IsAnsweredIn request n) b.judged
 
 -- ---- earlier books

@@ -49,7 +49,7 @@ opening_before marks c number timestamp unit other d there = elim (at_end marks 
 ]
 
 module _ (views : ℕ → Option View) (who controller : ℕ) (a : Asker) where
-  -- it is in order where the requester is seen as that state
+  -- the asker is in order where the requester is seen as that state
   abbrev pub OrderAt : Requester → List Mark → Type 0
   OrderAt s marks = InOrder (seen_with views who (view_of controller s) marks [] 0) a
 

@@ -15,10 +15,10 @@ use Rattle.wire_base.proofs.ListLaws.{no_some, some_is}
 use Rattle.step_notes.specs.Records.{Book, Judging, Sent}
 use Rattle.world_moves.specs.declared.bag.BagUnit.{BagUnit}
 use Rattle.domain_world.specs.Accepting.Carried.{IsWholeUnit, call_carried, call_judged}
-use Rattle.domain_world.proofs.Accepting.CarriedLaws.{asked_is, one_whole}
-use Rattle.domain_world.proofs.Accepting.Heard.JudgedUnitLaws.{IsCarriedCall}
-use Rattle.domain_world.proofs.Accepting.Heard.MarkSentLaws.{IsCallSent}
-use Rattle.domain_world.proofs.Accepting.Heard.MarkWholeLaws.{MarksFit, OfMark}
+use Rattle.domain_world.proofs.Acceptance.CarriedLaws.{asked_is, one_whole}
+use Rattle.domain_world.proofs.Acceptance.Heard.JudgedUnitLaws.{IsCarriedCall}
+use Rattle.domain_world.proofs.Acceptance.Heard.MarkSentLaws.{IsCallSent}
+use Rattle.domain_world.proofs.Acceptance.Heard.MarkWholeLaws.{MarksFit, OfMark}
 use Rattle.domain_world.proofs.Apart.TogetherBookLaws.{sets_by, sets_on, shown_by, shown_in, shown_on}
 use Rattle.domain_world.proofs.Apart.TogetherKnownLaws.{LeadsTo}
 use Rattle.domain_world.proofs.Frames.BagFrameLaws.{IsOfUnit}
@@ -50,7 +50,7 @@ asks_found n bag (Some one) fits = asks_of n bag one.mark (fits one refl)
 abbrev pub asks_in : (bag : List BagUnit) (b : Book) → MarksFit bag b → ℕ → Option (List ℕ)
 asks_in bag b fits n = asks_found n bag (slice_get b.sent n) (λ one there. fits n one there)
 
--- ---- it is what the call sets that the unit carries
+-- ---- the secret that is asked for is what the call sets that the unit carries
 
 pub sent_asks : (channel : ChannelIdentity) (number timestamp : ℕ) (bytes : List ℕ) (sent : IsCallSent channel number timestamp bytes) (whole : IsWholeUnit bytes) (asked : JudgedCall) →
     call_carried whole.unit.body ≡ Some (call_judged asked) → sent.stamped.asked ≡ asked

@@ -11,7 +11,7 @@ use Rattle.world_moves.specs.Forms.{IsSchedule}
 use Rattle.world_moves.specs.Plain.{plain_world}
 use Rattle.domain_world.specs.Claims.NeverApart.{BeginsAlike}
 use Rattle.domain_world.specs.Past.{Delivery}
-use Rattle.domain_world.proofs.Accepting.Turns.TurnRunLaws.{TurnAction, TurnSide, side_first, side_keeps as turns_keep_on}
+use Rattle.domain_world.proofs.Acceptance.Turns.TurnRunLaws.{TurnAction, TurnSide, side_first, side_keeps as turns_keep_on}
 use Rattle.domain_world.proofs.Apart.TogetherRunLaws.{Beneath, beneath_keep, first_beneath}
 use Rattle.domain_world.proofs.Frames.ControllerFrameLaws.{AmongControllers, controllers_written}
 use Rattle.domain_world.proofs.Frames.EndNoteLaws.{acceptings_of, judgings_of}

@@ -48,7 +48,7 @@ abbrev pub sets_on : Option SecureChannelState → Judging → ℕ → Bool
 sets_on None j place = false
 sets_on (Some channel) j place = sets_by j.asked j.table place
 
--- and it passed at that controller
+-- a call by which a secret of that account is set passed at that controller
 abbrev pub is_taken : ℕ → ℕ → Judging → Bool
 is_taken controller place j = (j.controller == controller) && has_passed j.how && sets_on j.checks j place
 
@@ -109,7 +109,7 @@ own_hash : (own : Bool) (j : Judging) (place : ℕ) (before : List ℕ) →
 own_hash false j place before = refl
 own_hash true j place before = passed_hash (has_passed j.how) j place before
 
--- it is the hash that hashes_follow_sets gives
+-- the hash behind calls is the one that `hashes_follow_sets` gives
 pub hash_is : (secret : List ℕ) (controller place : ℕ) (judged : List Judging) → hash_after (Some secret) controller place judged ≡ Some (hash_now secret controller place judged)
 hash_is secret controller place [] = refl
 hash_is secret controller place (j ∷ earlier) =

@@ -27,11 +27,11 @@ use Rattle.world_moves.specs.Plain.{plain_member_step as member_step}
 use Rattle.domain_world.specs.Accepting.Carried.{IsWholeUnit}
 use Rattle.domain_world.specs.Claims.NeverApart.{BeginsAlike}
 use Rattle.domain_world.specs.Past.{Delivery, controller_asked, marks_of, note_member}
-use Rattle.domain_world.proofs.Accepting.CarriedLaws.{one_whole}
-use Rattle.domain_world.proofs.Accepting.LetInStepLaws.{IsDialledBy}
-use Rattle.domain_world.proofs.Accepting.Heard.BoundOpeningLaws.{AsksSo, one_asks_so}
-use Rattle.domain_world.proofs.Accepting.Heard.MarkSentLaws.{CarriesMark, FitsWell, IsCallSent, Makes, MakesIn, SendsIf, makes_marks, member_sends}
-use Rattle.domain_world.proofs.Accepting.Heard.MarkWholeLaws.{MarksFit, known_running}
+use Rattle.domain_world.proofs.Acceptance.CarriedLaws.{one_whole}
+use Rattle.domain_world.proofs.Acceptance.LetInStepLaws.{IsDialledBy}
+use Rattle.domain_world.proofs.Acceptance.Heard.BoundOpeningLaws.{AsksSo, one_asks_so}
+use Rattle.domain_world.proofs.Acceptance.Heard.MarkSentLaws.{CarriesMark, FitsWell, IsCallSent, Makes, MakesIn, SendsIf, makes_marks, member_sends}
+use Rattle.domain_world.proofs.Acceptance.Heard.MarkWholeLaws.{MarksFit, known_running}
 use Rattle.domain_world.proofs.Quiet.QuietRunLaws.{comes_whole}
 use Rattle.domain_world.proofs.Quiet.QuietStepLaws.{QuietState}
 use Rattle.domain_world.proofs.Quiet.QuietTurnLaws.{IfOn}

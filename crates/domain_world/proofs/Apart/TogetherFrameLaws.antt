@@ -47,7 +47,7 @@ use Rattle.domain_world.specs.Accepting.SeenSteps.{Differ, HearsNone, NoRequests
 use Rattle.domain_world.specs.Claims.OrderedSteps.{AreBefore, SuitsIfTaken}
 use Rattle.domain_world.specs.Past.{Delivery, accepted_of, at_controller, judged_of, numbers_on, controller_asked, controller_of_plan, marks_of, note_member, note_messages, onto, sent_at}
 use Rattle.domain_world.proofs.Frames.AloneNoteLaws.{alone_answers as answers_of, note_controller_alone as note_controller}
-use Rattle.domain_world.proofs.Accepting.LetInStepLaws.{IsDialledBy, Meets, MeetsMember}
+use Rattle.domain_world.proofs.Acceptance.LetInStepLaws.{IsDialledBy, Meets, MeetsMember}
 use Rattle.domain_world.proofs.Apart.KeptTextLaws.{KeepsSo}
 use Rattle.domain_world.proofs.Apart.OrderFrameLaws.{OrderKept}
 use Rattle.domain_world.proofs.Apart.OrderSuitLaws.{SuitSide, all_suit}

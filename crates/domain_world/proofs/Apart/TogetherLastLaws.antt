@@ -36,11 +36,11 @@ use Rattle.domain_world.specs.Accepting.Units.{UnitsAreHeard}
 use Rattle.domain_world.specs.Claims.{IsClear}
 use Rattle.domain_world.specs.Claims.Replies.{IsReplyOfOne}
 use Rattle.domain_world.specs.Past.{Past, controller_asked, onto, past, plain_form, running_in}
-use Rattle.domain_world.proofs.Accepting.AnsweredLaws.{passed_of}
-use Rattle.domain_world.proofs.Accepting.CarriedLaws.{replies_to}
-use Rattle.domain_world.proofs.Accepting.ScheduleLaws.{units_heard}
-use Rattle.domain_world.proofs.Accepting.Turns.TurnFactLaws.{AreApart, GrowsTo, SameEnds, apart_from, apart_front, marks_before, past_at, taken_stays, world_in}
-use Rattle.domain_world.proofs.Accepting.Turns.TurnMarkLaws.{marks_known}
+use Rattle.domain_world.proofs.Acceptance.AnsweredLaws.{passed_of}
+use Rattle.domain_world.proofs.Acceptance.CarriedLaws.{replies_to}
+use Rattle.domain_world.proofs.Acceptance.ScheduleLaws.{units_heard}
+use Rattle.domain_world.proofs.Acceptance.Turns.TurnFactLaws.{AreApart, GrowsTo, SameEnds, apart_from, apart_front, marks_before, past_at, taken_stays, world_in}
+use Rattle.domain_world.proofs.Acceptance.Turns.TurnMarkLaws.{marks_known}
 use Rattle.domain_world.proofs.Apart.HappeningLaws.{run_same}
 use Rattle.domain_world.proofs.Apart.NamedPlanLaws.{NamesStand, plain_same}
 use Rattle.domain_world.proofs.Apart.OrderToldLaws.{IsEarlier, RepliesFrom, within}
@@ -88,7 +88,7 @@ passed_one n (j ∷ earlier) one = elim one [
 
 -- ---- a call of a member that sets a secret, and is out
 
--- it waits on a channel that is open
+-- a call that sets a secret waits on a channel that is open
 pub open_by : (how : Standing) (st : Option Step) → IsSetReply st → MatchesStep how st → (o : SecureChannelState) × (how ≡ standing.Open o)
 open_by how None is matches = absurd is
 open_by how (Some (step.Bind c)) is matches = absurd is
@@ -125,7 +125,7 @@ module _ (Done : ℕ → Type 0) (marks : List Mark) (d : ChannelIdentity) where
     | inr later ↦ last_or_done earlier last n later all.1
   ]
 
--- it was written down, and each other call on its channel passed
+-- a call that sets a secret was written down, and each other call on its channel passed
 pub record IsSetOut (b : Book) (c : Requester) (d : ChannelIdentity) : Type 0 where
   pub unit : ℕ
   pub timestamp : ℕ

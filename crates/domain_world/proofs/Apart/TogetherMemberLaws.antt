@@ -80,12 +80,12 @@ stops b marks c secrets kept keeps ties =
 
 -- ---- what is to be known of the reply that is heard
 
--- where it says that a secret was set
+-- what is to be known of a reply which says that a secret was set
 abbrev pub SetFits : Basis → List Mark → Requester → Hearing → Type 0
 SetFits b marks c (hearing.Set (set_hearing.Reply reply)) = (o : SecureChannelState) → judge_set reply c.standing ≡ Ok o → SetHeard b marks c
 SetFits b marks c _ = Unit {0}
 
--- and of a channel that opens
+-- what is heard fits where it suits as an opening, and as a reply which says that a secret was set
 fits_by : (b : Basis) (marks more : List Mark) (c : Requester) (secrets : SecretsState) (drawn : List (List ℕ)) (uses : ℕ) (ties : Ties b marks c secrets) (tries : TriesSecrets c secrets)
     (named : SameName c.caller.computer b.computer) (apart : CallsAreApart (seen_with b.views b.who (view_of b.controller c) marks drawn uses))
     (order : AreInOrder (seen_with b.views b.who (view_of b.controller c) marks drawn uses) b.who b.controller b.computer b.accepted) (took : (unit : ℕ) → IsIn unit b.sides.took → unit < length marks)

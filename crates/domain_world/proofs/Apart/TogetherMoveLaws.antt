@@ -31,8 +31,8 @@ use Rattle.domain_world.specs.Accepting.Runs.{IsQuiet, IsQuietTurn}
 use Rattle.domain_world.specs.Accepting.SeenSteps.{Differ}
 use Rattle.domain_world.specs.Past.{Delivery, note_client, note_given, note_member, other_marks, sent_at}
 use Rattle.domain_world.proofs.Frames.AloneNoteLaws.{note_alone as note_at, note_controller_alone as note_controller}
-use Rattle.domain_world.proofs.Accepting.LetInStepLaws.{IsDialledBy, Meets, calm_meets, last_accepted, side_meets}
-use Rattle.domain_world.proofs.Accepting.Turns.TurnQuietLaws.{action_still}
+use Rattle.domain_world.proofs.Acceptance.LetInStepLaws.{IsDialledBy, Meets, calm_meets, last_accepted, side_meets}
+use Rattle.domain_world.proofs.Acceptance.Turns.TurnQuietLaws.{action_still}
 use Rattle.domain_world.proofs.Apart.KeptTextLaws.{acts_so}
 use Rattle.domain_world.proofs.Apart.OrderMoveLaws.{UnitsFact}
 use Rattle.domain_world.proofs.Apart.OrderSuitLaws.{SuitSide}
@@ -108,7 +108,7 @@ module _ (p : Pairing) (Knows : List BagUnit → Book → Type 0) (More : MoveFa
         let knows_so : Knows (bag_at q.to s) b = known.before (bag_at q.to s) (bag_at q.to now) b b (still_at q.to s now (kept_same s.bag)) (same_earlier b) knows in
         hears_together p n end what q.rest given s b meets help (λ before. together (omega (arith, few)) before knows_so) few differ (known.told (bag_at q.to s) b knows_so)
 
-    -- the same where a link has just been made
+    -- what helps still does where a link has just been made
     linked : (n : ℕ) (rest : Given) (route : Route) (s : State) (given : Given) (b : Book) → HasHelp p n rest s given b → HasHelp p n rest (with_link route s) given b
     linked n rest route s given b help = record {
       calls = λ few differ. link_more n s.member_plans s.ends s.chances.drawn s.links route b.sent b.messages (help.calls few differ);

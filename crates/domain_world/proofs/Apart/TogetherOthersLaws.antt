@@ -32,7 +32,7 @@ use Rattle.domain_world.specs.Accepting.Runs.{IsQuiet, IsQuietTurn}
 use Rattle.domain_world.specs.Accepting.SeenSteps.{Differ, IfPlaced, Placed, PlacedBy}
 use Rattle.domain_world.specs.Claims.NeverApart.{BeginsAlike}
 use Rattle.domain_world.specs.Past.{Delivery, controller_asked, note_member}
-use Rattle.domain_world.proofs.Accepting.LetInStepLaws.{IsDialledBy}
+use Rattle.domain_world.proofs.Acceptance.LetInStepLaws.{IsDialledBy}
 use Rattle.domain_world.proofs.Quiet.QuietRunLaws.{is_quiet}
 use Rattle.domain_world.proofs.Apart.NamedPlanLaws.{NamesStand}
 use Rattle.domain_world.proofs.Apart.OrderMoveLaws.{has_plan}

@@ -18,7 +18,7 @@ use Rattle.world_moves.specs.declared.state.State.{State}
 use Rattle.world_moves.specs.Acting.{Given}
 use Rattle.domain_world.specs.Accepting.SeenSteps.{Differ}
 use Rattle.domain_world.specs.Past.{Delivery}
-use Rattle.domain_world.proofs.Accepting.Heard.JudgedUnitLaws.{IsCarriedCall, IsJudgedWell}
+use Rattle.domain_world.proofs.Acceptance.Heard.JudgedUnitLaws.{IsCarriedCall, IsJudgedWell}
 use Rattle.domain_world.proofs.Apart.OrderToldLaws.{within}
 use Rattle.domain_world.proofs.Apart.TogetherBookLaws.{Pairing, is_taken, taken_units, units_if}
 use Rattle.domain_world.proofs.Apart.TogetherFrameLaws.{HasHelp, OwnKnown, marks_of_step}
@@ -58,12 +58,12 @@ taken_below s b controller place n even well is =
 
 -- ---- a unit that is taken
 
--- what is left to be known of it
+-- what is left to be known of a unit that a member takes
 pub record LeftKnown (p : Pairing) (n : ℕ) (w : Delivery) (piece : List ℕ) (s after : State) (b : Book) (running : Running) (whole : IsWhole w.link piece running) : Type 0 where
-  -- what its call sets
+  -- what the member's call sets
   pub carries : CarriesAsks (basis_of p (views_at s.member_plans s.ends) b) (marks_in b.sent) (marks_of_step p p.who (record { running = Some running }) w piece s after) running.logons.channel
       running.logons.plan.secrets s.chances.drawn (2 * n) (taking_note (Some (take_of running.logons.channel whole.unit)) p.controller running.logons.channel).called
-  -- and what a reply to one says
+  -- what the reply to a call that sets a secret says
   pub set : SetFits (basis_of p (views_at s.member_plans s.ends) b) (marks_in b.sent) running.logons.channel (hear running.logons.channel.turn whole.unit running.logons.channel.next_call)
 
 known_if : (part : Result (Part DialWork) StepRefused) (A B : Type 0) → (A → B) → KnownIf part A → KnownIf part B

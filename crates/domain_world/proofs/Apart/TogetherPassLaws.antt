@@ -13,12 +13,12 @@ use Rattle.world_moves.specs.declared.plan.Plan.{Plan}
 use Rattle.world_moves.specs.Forms.{IsSchedule}
 use Rattle.domain_world.specs.Claims.{IsClear}
 use Rattle.domain_world.specs.Past.{onto, past}
-use Rattle.domain_world.proofs.Accepting.AnsweredLaws.{no_twice}
-use Rattle.domain_world.proofs.Accepting.ScheduleLaws.{units_heard}
-use Rattle.domain_world.proofs.Accepting.Turns.TurnNotedLaws.{or_false}
-use Rattle.domain_world.proofs.Accepting.UnitLaws.{heard_in}
+use Rattle.domain_world.proofs.Acceptance.AnsweredLaws.{no_twice}
+use Rattle.domain_world.proofs.Acceptance.ScheduleLaws.{units_heard}
+use Rattle.domain_world.proofs.Acceptance.Turns.TurnNotedLaws.{or_false}
+use Rattle.domain_world.proofs.Acceptance.UnitLaws.{heard_in}
 use Rattle.domain_world.proofs.Apart.OrderToldLaws.{IsEarlier}
-use Rattle.domain_world.proofs.Accepting.AnsweredRunLaws.{is_proved}
+use Rattle.domain_world.proofs.Acceptance.AnsweredRunLaws.{is_proved}
 use Rattle.domain_world.proofs.Apart.TogetherBookLaws.{AllJudgedSo, IsTakenSo, Pairing, is_taken, passed_units, units_if}
 use Rattle.domain_world.proofs.Moves.DrawnRunLaws.{draws_differ}
 use Rattle.world_moves.specs.Alone.{IsPlainAlone}
@@ -53,7 +53,7 @@ passed_at (j ∷ earlier) n is = elim (first_or_earlier (has_passed j.how) j.sou
       record { place = suc rest.place; call = rest.call; there = rest.there; passed = rest.passed; came = rest.came }
 ]
 
--- as it is said by places
+-- no call passes twice, said by places
 abbrev pub PassesNoTwice : List Judging → Type 0
 PassesNoTwice judged =
     (k l : ℕ) (second first : Judging) (unit : ℕ) → k < l → slice_get judged k ≡ Some second → slice_get judged l ≡ Some first → has_passed second.how ≡ true → has_passed first.how ≡ true →

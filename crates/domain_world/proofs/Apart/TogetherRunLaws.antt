@@ -61,7 +61,7 @@ use Rattle.domain_world.proofs.Judgements.HashLaws.{hashes_follow}
 use Rattle.domain_world.proofs.Calls.CallHoldsLaws.{CallsHold, controller_same}
 use Rattle.domain_world.proofs.Frames.AloneFrameLaws.{moves_keep_alone}
 use Rattle.domain_world.proofs.Frames.MoveKeepLaws.{Both, KeepsMoves, MoveFact, NoSide, Progress, beside, coming, join_moves, started}
-use Rattle.domain_world.proofs.Accepting.Heard.BoundOpeningLaws.{AsksWell, all_fresh_so, asks_written, no_part as nothing_told}
+use Rattle.domain_world.proofs.Acceptance.Heard.BoundOpeningLaws.{AsksWell, all_fresh_so, asks_written, no_part as nothing_told}
 use Rattle.world_moves.specs.Alone.{IsPlainAlone}
 use Rattle.world_moves.specs.Plain.{plain_world}
 use Rattle.domain_controller.proofs.TrustPlaceLaws.{got_all}
@@ -136,7 +136,7 @@ placed_at accounts name account is =
 pub its_place : (plan : Plan) (member : ℕ) (begins : BeginsAlike plan member) → IsPlacedAt begins.table.accounts (machine_name begins.own.computer) begins.account
 its_place plan member begins = placed_at begins.table.accounts (machine_name begins.own.computer) begins.account begins.found
 
--- its hash is that by the calls that set one
+-- an account's hash is that by the calls that set one
 pub hash_of_run : (plan : Plan) (moves : List Move) → IsPlainAlone plan → (member : ℕ) (begins : BeginsAlike plan member) (has : HasItsAccount (past plan moves) member begins) →
     has.account.hash ≡ hash_now begins.secret begins.controller (its_place plan member begins).place (past plan moves).book.judged
 hash_of_run plan moves nobody member begins has =
@@ -186,7 +186,7 @@ module _ (plan : Plan) (member : ℕ) (begins : BeginsAlike plan member) (place 
       (beside (Unit {0}) (Both (Known plan) Ordered) (Kept member) (kept_keeps member)))
       (beside (Unit {0}) (Both (Both (Known plan) Ordered) (Kept member)) TryFact try_keeps)
 
-  -- its controller is that one
+  -- a member's controller is the one of its plan
   plan_asks : (own : Option MemberPlan) (ends : EndStates) → option_map but_secret own ≡ Some (but_secret begins.own) → end_of_peer begins.own.controller ends ≡ Some (Controller begins.controller) →
       controller_of_plan own ends ≡ begins.controller
   plan_asks None ends is reaches = absurd (no_some (but_secret begins.own) is)
@@ -309,7 +309,7 @@ module _ (plan : Plan) (member : ℕ) (begins : BeginsAlike plan member) (place 
               (subst (λ (one : List ℕ). HoldsSecret one own.0.secrets) (sym hash) (kept_so own.0 help.there.0.running own.1 help.there.1 (together help.there.0 help.there.1))));
         }
 
--- its secret has 16 bytes
+-- a member's secret has 16 bytes
 pub its_secrets : (plan : Plan) (member : ℕ) (begins : BeginsAlike plan member) → HasForms plan → AreSecrets begins.own.secrets
 its_secrets plan member begins forms =
     let own : IsMemberPlan begins.own = got_all IsMemberPlan plan.members member begins.own (recursion_from_All IsMemberPlan plan.members forms.members) begins.is_plan in

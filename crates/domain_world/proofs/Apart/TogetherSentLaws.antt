@@ -39,7 +39,7 @@ use Rattle.step_notes.specs.MemberNotes.{TurnNote, asked_note, taking_note, time
 use Rattle.step_notes.proofs.Channels.ChannelNameLaws.{bound_at, set_bound_at}
 use Rattle.step_notes.proofs.Members.TurnRequestLaws.{IsOfTurn, of_turn}
 use Rattle.domain_world.specs.Accepting.Carried.{IsWholeUnit, call_carried, call_judged}
-use Rattle.domain_world.proofs.Accepting.Heard.MarkSentLaws.{FitsWell, IsCallSent, IsOut, MakesIn, NamesWell, asked_out, IsNoSet, its_set_out, no_set_out, set_out}
+use Rattle.domain_world.proofs.Acceptance.Heard.MarkSentLaws.{FitsWell, IsCallSent, IsOut, MakesIn, NamesWell, asked_out, IsNoSet, its_set_out, no_set_out, set_out}
 use Rattle.domain_world.proofs.Apart.TogetherAsksLaws.{sent_asks, set_by}
 
 -- the secret that is next has 16 bytes

@@ -95,16 +95,16 @@ use Rattle.domain_world.specs.Accepting.SeenSteps.{Differ}
 use Rattle.domain_world.specs.Claims.{IsClear}
 use Rattle.domain_world.specs.Claims.NeverApart.{BeginsAlike}
 use Rattle.domain_world.specs.Past.{Delivery, Past, note_member, past, plain_form}
-use Rattle.domain_world.proofs.Accepting.AnsweredLaws.{IsMade, made_for, passed_of}
-use Rattle.domain_world.proofs.Accepting.Heard.JudgedRunLaws.{judged_stand}
-use Rattle.domain_world.proofs.Accepting.Heard.JudgedUnitLaws.{IsCarriedCall, IsJudgedWell}
-use Rattle.domain_world.proofs.Accepting.Heard.MarkSentLaws.{AreItsNames, HasItsNames}
-use Rattle.domain_world.proofs.Accepting.Heard.MarkWholeLaws.{MarksFit, marks_fit}
-use Rattle.domain_world.proofs.Accepting.LetInStepLaws.{IsDialledBy}
+use Rattle.domain_world.proofs.Acceptance.AnsweredLaws.{IsMade, made_for, passed_of}
+use Rattle.domain_world.proofs.Acceptance.Heard.JudgedRunLaws.{judged_stand}
+use Rattle.domain_world.proofs.Acceptance.Heard.JudgedUnitLaws.{IsCarriedCall, IsJudgedWell}
+use Rattle.domain_world.proofs.Acceptance.Heard.MarkSentLaws.{AreItsNames, HasItsNames}
+use Rattle.domain_world.proofs.Acceptance.Heard.MarkWholeLaws.{MarksFit, marks_fit}
+use Rattle.domain_world.proofs.Acceptance.LetInStepLaws.{IsDialledBy}
 use Rattle.wire_base.proofs.ListPlaceLaws.{Placed, one_at, placed}
 use Rattle.domain_world.proofs.Quiet.QuietRunLaws.{is_quiet, one_piece}
-use Rattle.domain_world.proofs.Accepting.Turns.TurnFactLaws.{marks_before, taken_stays, world_in}
-use Rattle.domain_world.proofs.Accepting.Turns.TurnMarkLaws.{marks_known}
+use Rattle.domain_world.proofs.Acceptance.Turns.TurnFactLaws.{marks_before, taken_stays, world_in}
+use Rattle.domain_world.proofs.Acceptance.Turns.TurnMarkLaws.{marks_known}
 use Rattle.domain_world.proofs.Apart.AskedNamesLaws.{asked_names}
 use Rattle.domain_world.proofs.Apart.MachinePlaceLaws.{its_machine}
 use Rattle.domain_world.proofs.Apart.OrderToldLaws.{member_earlier, within}
@@ -178,13 +178,13 @@ pub hear_reads : (turn : Option Pending) (unit : RpcUnit) (next : ℕ) → Reads
 hear_reads None unit next = tt
 hear_reads (Some p) unit next = by_reads (unit.call == p.number) p unit next
 
--- ---- its status is 0
+-- ---- the status of a reply that sets a secret is 0
 
 status_by : (zero : Bool) (how : Standing) (r : SetReply) (o : SecureChannelState) → judge_set_status zero how r.returned ≡ Ok o → zero ≡ true
 status_by false how r o is = absurd (let never = is in cc)
 status_by true how r o is = refl
 
--- it is an answer
+-- a reply that sets a secret is an answer
 pub answer_by : (h : Hearing) (r : SetReply) (c : Requester) (o : SecureChannelState) → h ≡ hearing.Set (set_hearing.Reply r) → judge_set r c.standing ≡ Ok o → IsAnswer (act h c).taken
 answer_by h r c o is judged =
     subst (λ (heard : Hearing). IsAnswer (act heard c).taken) (sym is) (subst (λ (j : SetOutcome). IsAnswer (settle_set j c).taken) (sym judged) tt)
@@ -290,7 +290,7 @@ module _ (plan : Plan) (moves : List Move) (nobody : IsPlainAlone plan) (schedul
   abbrev pub Known : ℕ → Delivery → State → Given → Book → Type 0
   Known n w s given b = Beside plan member begins place (asks_in bag last fits) n (coming w) s given b
 
-  -- its controller's table has each name once
+  -- the table of the member's controller has each name once
   pub distinct : has_distinct_names begins.table.accounts ≡ true
   distinct =
       let its : IsTable begins.table = got_all IsTable plan.tables k begins.table (recursion_from_All IsTable plan.tables schedule.forms.tables) begins.is_table in its.distinct

@@ -61,7 +61,7 @@ basis_by p views accepted judged = record {
 abbrev pub basis_of : Pairing → (ℕ → Option View) → Book → Basis
 basis_of p views b = basis_by p views b.accepted b.judged
 
--- of the same channels, calls and marks
+-- ties by channels, calls and marks that are known by equations
 pub rebooked : (p : Pairing) (views : ℕ → Option View) (accepted after : List ChannelAccepted) (judged later : List Judging) (marks more : List Mark) (r : Option Running) (kept : SecretsState) →
     accepted ≡ after → judged ≡ later → marks ≡ more → TiesIf (basis_by p views accepted judged) marks r kept → TiesIf (basis_by p views after later) more r kept
 rebooked p views accepted after judged later marks more r kept same alike equal ties =
@@ -105,7 +105,7 @@ only_there (suc m) st = only_there m st
 abbrev pub IsSeeded : ℕ → Given → List MemberPlan → MemberPlan → Type 0
 IsSeeded m rest plans seed = KeepsSo m rest plans (only_at m (fresh_member seed))
 
--- so it is of one that runs
+-- a member that runs keeps texts that a seed by its plan has
 pub seeded : (m : ℕ) (rest : Given) (plans : List MemberPlan) (members : List MemberState) (running : Running) → slice_get members m ≡ Some (record { running = Some running }) →
     KeepsSo m rest plans members → IsSeeded m rest plans running.logons.plan
 seeded m rest plans members running there keeps = record {
@@ -166,7 +166,7 @@ pub other_gives : (p : Pairing) (end : EndId) (actions : List Action) (rest : Gi
 other_gives p end actions rest plans b None differs ties = record { seed = ties.seed; texts = seed_goes p.who end actions rest plans ties.seed differs ties.texts; together = ties.together }
 other_gives p end actions rest plans b (Some running) differs ties = ties
 
--- its own step: where it isn't taken there is nothing to do
+-- a member's own step: where it isn't taken there is nothing to do
 pub own_gives : (p : Pairing) (rest : Given) (plans : List MemberPlan) (b : Book) (seed : MemberPlan) (left : List (List ℕ)) (part : Result (Part DialWork) StepRefused) → IsSeeded p.who rest plans seed →
     TiesIf (basis_of p unseen b) (marks_in b.sent) (step_by actions_in state_in halted_state left part).state.running seed.secrets →
     TiesHold p (given_by (Member p.who) (actions_by (step_by actions_in state_in halted_state left part).answer) ++ rest) plans b
@@ -174,7 +174,7 @@ pub own_gives : (p : Pairing) (rest : Given) (plans : List MemberPlan) (b : Book
 own_gives p rest plans b seed left (Err why) texts ties = record { seed = seed; texts = texts; together = ties }
 own_gives p rest plans b seed left (Ok part) texts ties = ties
 
--- ---- it is made anew
+-- ---- a member is made anew
 
 alone_fresh : (p : Pairing) (b : Book) (seed : SecretsState) (own : MemberPlan) → ((secret : List ℕ) → HoldsSecret secret seed → HoldsSecret secret own.secrets) →
     TogetherAlone (basis_of p unseen b) (marks_in b.sent) seed → TiesHold p [] [] b (fresh_member own).running
@@ -199,7 +199,7 @@ pub seed_fresh : (p : Pairing) (plans : List MemberPlan) (b : Book) (own : Membe
 seed_fresh p plans b own is stopped =
     alone_fresh p b stopped.seed.secrets own (holds_alike stopped.seed.secrets own.secrets (seed_alike p.who plans stopped.seed own is stopped.texts)) stopped.together
 
--- ---- it begins to change its secret
+-- ---- a member begins to change its secret
 
 waits_none : (st : Option Step) (how : Standing) (caller : Caller) (next : Option (List ℕ)) (number : ℕ) (stands : Option ChannelIdentity) (marks : List Mark) → next ≡ None →
     IsSetIn st how caller next → WaitsBy st number stands marks None
@@ -264,7 +264,7 @@ together_elsewhere b r later secrets out were t = record {
   asked = t.asked;
 }
 
--- they change nothing
+-- calls on other channels change nothing of what a member holds
 pub marked_elsewhere : (b : Basis) (marks later : List Mark) (r : Option Running) (kept : SecretsState) → CallsElsewhere b later marks →
     ((running : Running) → r ≡ Some running → SameName running.logons.channel.caller.computer b.computer) → TiesIf b marks r kept → TiesIf b later r kept
 marked_elsewhere b marks later None kept were named t =

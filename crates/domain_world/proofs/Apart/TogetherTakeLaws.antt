@@ -186,7 +186,7 @@ module _ (b : Basis) where
     asked = t.asked;
   }
 
-  -- it opens no channel that it didn't open before
+  -- the requester opens no channel that it didn't open before
   pub no_more : (u v : View) → ((challenge : List ℕ) → v.opening ≡ Some challenge → u.opening ≡ Some challenge) →
       OpensNoMore (λ j. seen_if (j == b.who) u (b.views j)) (λ j. seen_if (j == b.who) v (b.views j)) b.who
   no_more u v less w challenge at opening = (u, own_seen u, less challenge (ap (λ (x : View). x.opening) (seen_own v w at) ∙ opening))
@@ -418,7 +418,7 @@ stands_of controller computer name (standing.Half client server) c named is = ab
 stands_of controller computer name (standing.Open o) c named is =
     subst (λ (x : ChannelIdentity). IsOf controller name x) (some_is (channel_of controller computer o) c is) (record { controller_is = refl; computer_is = named })
 
--- it opens no more than before
+-- a view that opens what it did opens no more than before
 pub same_opening : (u v : View) → v.opening ≡ u.opening → (challenge : List ℕ) → v.opening ≡ Some challenge → u.opening ≡ Some challenge
 same_opening u v same challenge is = sym same ∙ is
 
@@ -498,7 +498,7 @@ module _ (b : Basis) (marks more : List Mark) (c : Requester) (secrets : Secrets
           ((stay_together ℕ).sends (seen_with b.views b.who (view_of b.controller t) front [] 0) b.who b.controller b.computer b.accepted (with_held b secrets None) d number timestamp b.sides.asks
           (λ unit mark at. refl) (asks (length front) number timestamp d is_new there_now) (λ old. absurd (omega (arith, is_new, took (length front) old))) refl (at_front together))
 
-      -- it was given up, or isn't waited for
+      -- the call isn't out then: it was given up, or isn't waited for
       then_none : TogetherAs b (view_of b.controller t) (marks ++ more) secrets (Some (length front)) → TogetherAs b (view_of b.controller t) (marks ++ more) secrets None
       then_none together =
           goes_without b (view_of b.controller t) (view_of b.controller t) (marks ++ more) secrets secrets (Some (length front)) (λ challenge opening. opening) (keeps_all secrets) together

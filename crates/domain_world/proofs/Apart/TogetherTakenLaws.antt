@@ -61,15 +61,15 @@ use Rattle.domain_world.specs.Claims.Openings.{IsLastAccepted, is_opened_for, la
 use Rattle.domain_world.specs.Claims.Tables.{accounts_after}
 use Rattle.domain_world.specs.Past.{Delivery, accepted_of, at_controller, controller_of_plan, first_of, judged_of, later_of, numbers_on, onto, past, replied_with}
 use Rattle.domain_world.proofs.Frames.AloneNoteLaws.{alone_answers as answers_of, note_controller_alone as note_controller}
-use Rattle.domain_world.proofs.Accepting.AnsweredLaws.{StandsFor, channel_there}
-use Rattle.domain_world.proofs.Accepting.CarriedLaws.{IsRequested, called}
-use Rattle.domain_world.proofs.Accepting.Heard.JudgedRunLaws.{judged_stand}
-use Rattle.domain_world.proofs.Accepting.Heard.JudgedUnitLaws.{AllHeardSo, IsCarriedCall, IsJudgedWell, IsWholeCarried, answer_holds, any_heard, whole_carried}
-use Rattle.domain_world.proofs.Accepting.Heard.MarkSentLaws.{AreItsNames, HasItsNames}
-use Rattle.domain_world.proofs.Accepting.Heard.MarkWholeLaws.{MarksFit}
+use Rattle.domain_world.proofs.Acceptance.AnsweredLaws.{StandsFor, channel_there}
+use Rattle.domain_world.proofs.Acceptance.CarriedLaws.{IsRequested, called}
+use Rattle.domain_world.proofs.Acceptance.Heard.JudgedRunLaws.{judged_stand}
+use Rattle.domain_world.proofs.Acceptance.Heard.JudgedUnitLaws.{AllHeardSo, IsCarriedCall, IsJudgedWell, IsWholeCarried, answer_holds, any_heard, whole_carried}
+use Rattle.domain_world.proofs.Acceptance.Heard.MarkSentLaws.{AreItsNames, HasItsNames}
+use Rattle.domain_world.proofs.Acceptance.Heard.MarkWholeLaws.{MarksFit}
 use Rattle.wire_base.proofs.ListPlaceLaws.{all_by_place}
 use Rattle.domain_world.proofs.Quiet.QuietStepLaws.{QuietState}
-use Rattle.domain_world.proofs.Accepting.ScheduleLaws.{units_heard}
+use Rattle.domain_world.proofs.Acceptance.ScheduleLaws.{units_heard}
 use Rattle.domain_world.proofs.Apart.AcceptedHashLaws.{IsOfUnit, JudgesBy, OpensBy, not_both, unit_answers}
 use Rattle.domain_world.proofs.Apart.AskedNamesLaws.{asked_names, opening_names}
 use Rattle.domain_world.proofs.Apart.MachinePlaceLaws.{its_computer, its_machine}
@@ -322,7 +322,7 @@ module _ (plan : Plan) (moves : List Move) (nobody : IsPlainAlone plan) (schedul
       -- ---- a unit of the bag
 
       module _ (number : ℕ) (source : w.source ≡ InUnit number) (carried : IsWholeCarried s number w piece) (all : AllByRecursion (IsOfUnit at carried.send.unit b.accepted c.table) answers) where
-        -- as the last bag has it
+        -- the carried unit, as the last bag has it
         abbrev still : IsStill carried.unit bag number
         still = still_last number carried.unit carried.there
 

@@ -96,7 +96,7 @@ module _ (b : Basis) (marks : List Mark) (c : Requester) (secrets : SecretsState
   abbrev after : View → Requests ℕ
   after v = record r { views = λ j. seen_if (j == b.who) v (r.views j) }
 
-  -- it is seen so afterwards
+  -- secrets and hash are together as the requester is seen afterwards
   hidden_under : (v : View) (out : Option ℕ) → AreTogether (after v) b.who b.controller b.computer b.accepted (with_held b secrets out) → TogetherAs b v marks secrets out
   hidden_under v out t = record {
     among = t.among;
@@ -270,7 +270,7 @@ module _ (b : Basis) (marks : List Mark) (drawn : List (List ℕ)) (uses : ℕ) 
     abbrev pub TiesThen : WorkFact
     TiesThen how w after = Differ (drawn ++ draws_between left after) → Ties b marks w.logons.channel w.logons.plan.secrets
 
-    -- its secrets are given to the channel
+    -- a member's secrets are given to its channel
     given_stands : (w : Work) (rest : List (List ℕ)) → OfWork w → TurnStands b marks (drawn ++ rest) uses (given_channel w) w.logons.plan.secrets
     given_stands w rest stands =
         let more : StandsApart b.views b.who b.controller w.logons.channel marks (drawn ++ rest) uses =

@@ -17,7 +17,7 @@ use Rattle.domain_world.specs.Accepting.Sequences.{AnswersCall, IsPassedIn, Repl
 use Rattle.domain_world.specs.Claims.OpeningReplies.{AnswersOpening, IsMarkedAsOpened, RepliesAreToOpenings}
 use Rattle.domain_world.specs.Claims.Openings.{IsUnused}
 use Rattle.domain_world.specs.Past.{Past, past}
-use Rattle.domain_world.proofs.Accepting.MarkRunLaws.{openings_marked}
+use Rattle.domain_world.proofs.Acceptance.MarkRunLaws.{openings_marked}
 use Rattle.domain_world.proofs.Apart.OrderToldLaws.{AreOnce, IsAnsweredIn, IsCallingOf, OpensIn, Told}
 use Rattle.domain_world.proofs.Moves.MarkPlaceLaws.{got_beside, got_map}
 use Rattle.domain_world.proofs.Judgements.Openings.OpeningAnswerLaws.{replies_to_openings}

@@ -27,9 +27,9 @@ use Rattle.step_notes.specs.MemberNotes.{TurnNote, asked_note, link_of_logon, li
 use Rattle.step_notes.specs.Records.{MessageTaken}
 use Rattle.step_notes.proofs.Members.KeptLogonLaws.{one_before}
 use Rattle.domain_world.specs.Past.{change_if, change_message, with_answer, with_call}
-use Rattle.domain_world.proofs.Accepting.Heard.AnswerReadLaws.{IsAnswerOf, answer_is}
+use Rattle.domain_world.proofs.Acceptance.Heard.AnswerReadLaws.{IsAnswerOf, answer_is}
 use Rattle.domain_world.proofs.Messages.MessageNoteLaws.{changed}
-use Rattle.domain_world.proofs.Accepting.Turns.TurnNotedLaws.{answered_is}
+use Rattle.domain_world.proofs.Acceptance.Turns.TurnNotedLaws.{answered_is}
 use Rattle.wire_base.proofs.AllLaws.{all_join}
 use Rattle.domain_world.proofs.Calls.OutStepLaws.{OutBy}
 use Rattle.domain_world.proofs.Calls.WholeOutLaws.{changed_all, noted}

@@ -88,8 +88,8 @@ started_caller (Some p) logons s timestamp challenge = refl
 started_caller None [] s timestamp challenge = refl
 started_caller None (logon ∷ logons) s timestamp challenge = refl
 
--- it names that type
-abbrev Names : ℕ → Requester → Type 0
+-- the requester names that type of channel
+abbrev Names : (type : ℕ) (s : Requester) → Type 0
 Names type s = s.caller.kind ≡ type
 
 taken_names : (type : ℕ) (s : Requester) (unit : RpcUnit) → Names type s → Names type (take_of s unit).state

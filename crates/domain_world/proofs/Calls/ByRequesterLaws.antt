@@ -13,7 +13,7 @@ member_of (OfMember member) = member
 abbrev pub by_requester : Requests ℕ → Requests RequesterId
 by_requester r = record { views = λ who. r.views (member_of who); marks = r.marks; drawn = r.drawn; uses = r.uses }
 
--- it is seen as each member is
+-- each requester is seen as its member is
 pub seen_so : (r : Requests ℕ) (s : State) → ((k : ℕ) → r.views k ≡ seen_in s (OfMember k)) → (who : RequesterId) → (by_requester r).views who ≡ seen_in s who
 seen_so r s members (OfMember member) = members member
 

@@ -44,7 +44,7 @@ use Rattle.domain_world.specs.Accepting.SeenSteps.{HearsNone, IsPlaced, NoReques
 use Rattle.domain_world.specs.Accepting.Answered.{IsItsWay}
 use Rattle.domain_world.specs.Past.{Delivery, at_controller, at_member, first_of, marks_of, note_messages, numbers_on, sent_at, controller_asked}
 use Rattle.domain_world.proofs.Frames.AloneNoteLaws.{alone_answers as answers_of, note_controller_alone as note_controller}
-use Rattle.domain_world.proofs.Accepting.LetInStepLaws.{IsAcceptedBy, IsDialledBy}
+use Rattle.domain_world.proofs.Acceptance.LetInStepLaws.{IsAcceptedBy, IsDialledBy}
 use Rattle.domain_world.proofs.Calls.CallHoldsLaws.{CallsHold, differ_front, marks_append, marks_in, marks_sent, member_changed, sent_more, views_at}
 use Rattle.domain_world.proofs.Calls.CallStepLaws.{KeptSo, coherent_if, controller_hears}
 use Rattle.domain_world.proofs.Calls.MarkWayLaws.{answers_way}
@@ -106,7 +106,7 @@ pub units_in_none : (r : Option Running) (number : ℕ) (piece : List ℕ) (left
 units_in_none None number piece left other = refl
 units_in_none (Some running) number piece left other = units_on_none running.dialling number piece running left other
 
--- nor where the step is taken
+-- no units are served, whether the step is taken or not
 pub if_none : (answer : Result (List Action) StepRefused) → units_if_taken {U = ServedUnit AtTurn TurnTalk} answer [] ≡ []
 if_none (Ok actions) = refl
 if_none (Err why) = refl
@@ -116,7 +116,7 @@ pub other_none : (r : Option Running) (number : ℕ) (piece : List ℕ) → IsOt
 other_none None number piece other = tt
 other_none (Some running) number piece other = heard_not running.dialling number piece other
 
--- as messages and units are written down
+-- what is known of messages stays as messages and units are written down
 messages_more : (links : List Route) (sent more : List Sent) (messages new : List MessageTaken) (k : ℕ) →
     ((j : ℕ) (unit : Sent) → slice_get sent j ≡ Some unit → slice_get more j ≡ Some unit) → StaysKnown links links sent more messages (messages ++ new) k
 messages_more links sent more messages new k grown = record {
@@ -217,7 +217,7 @@ module _ (n at : ℕ) (w : Delivery) (piece : List ℕ) (s after : State) (b : B
     abbrev pub served : List (ServedUnit AtTurn TurnTalk)
     served = turn_units_in (Some running) w.link piece left
 
-    -- those of a step that is taken
+    -- the units of a turn in a step that is taken
     abbrev pub taken : Result (Part DialWork) StepRefused → List (ServedUnit AtTurn TurnTalk)
     taken part = units_if_taken (step_by actions_in state_in halted_state left part).answer served
 
@@ -241,7 +241,7 @@ module _ (n at : ℕ) (w : Delivery) (piece : List ℕ) (s after : State) (b : B
     abbrev pub all_messages : List MessageTaken
     all_messages = b.messages ++ news m
 
-    -- and what the step changes of them
+    -- messages, and what the step changes of them
     abbrev pub noted_by : Result (Part DialWork) StepRefused → List MessageTaken
     noted_by (Err why) = all_messages
     noted_by (Ok part) = noted note running.logons (unit_in w.source) (first_of numbers) all_messages
@@ -286,7 +286,7 @@ module _ (n at : ℕ) (w : Delivery) (piece : List ℕ) (s after : State) (b : B
           (sent_as note w.link w.at own s.bag after.bag b.sent (ap (λ (hit : Bool). hit && true) ((Decides-eqb w.link w.link).1 refl)) even
           (new_as own s.bag after.bag (perform_all (Member at) actions t).state.bag same new))
 
-      -- its mark stands in one place
+      -- the mark of a request stands in one place
       pub request_placed : (part : Part DialWork) → stepped ≡ Ok part → note.sends ≡ true → IsPlaced marks note.mark
       request_placed part is sends =
           let actions : List Action = actions_in part.value in

@@ -53,10 +53,10 @@ use Rattle.domain_world.specs.Schedules.{OfSchedules}
 use Rattle.domain_world.proofs.Frames.AloneNoteLaws.{note_alone as note_at}
 use Rattle.domain_world.proofs.Moves.OpenMadeLaws.{on_side}
 use Rattle.domain_world.proofs.Frames.AloneStepLaws.{act_alone as hear_and_act, alone_by as step_by, renew_alone_by as renew_by, renewed_alone as renewed}
-use Rattle.domain_world.proofs.Accepting.LetInStepLaws.{IsDialledBy, Meets, MeetsMember, calm_meets, last_accepted, side_meets}
+use Rattle.domain_world.proofs.Acceptance.LetInStepLaws.{IsDialledBy, Meets, MeetsMember, calm_meets, last_accepted, side_meets}
 use Rattle.domain_world.proofs.Quiet.QuietRunLaws.{one_piece, has_bytes, is_quiet, quiet_first, quiet_keeps}
 use Rattle.domain_world.proofs.Quiet.QuietStepLaws.{QuietAction, QuietFact}
-use Rattle.domain_world.proofs.Accepting.RunBeginLaws.{plain_apart}
+use Rattle.domain_world.proofs.Acceptance.RunBeginLaws.{plain_apart}
 use Rattle.domain_world.proofs.Frames.BagFrameLaws.{IsServer}
 use Rattle.domain_world.proofs.Moves.ComingLaws.{CameFrom, CameInUnit, IsPieceOf, came_in_unit}
 use Rattle.domain_world.proofs.Moves.MarkPlaceLaws.{got_map}
@@ -306,7 +306,7 @@ out_at p n holds k m running pending logon there runs turn reply kept =
     one_weaker (IsOutIn p.book.sent k pending logon standing) (IsOut p k pending logon standing) p.book.messages (λ message is. out_of p k pending logon standing message is)
     (out pending logon turn reply kept)
 
--- from what is known after so many steps
+-- calls stand, from what is known after `steps` steps
 pub calls_stand : (plan : Plan) (moves : List Move) (steps : ℕ) → CallsKept steps (past plan moves).world.state [] (past plan moves).book →
     steps + 2 * length (past plan moves).world.state.open_links ≤ 10 * length moves → IsSchedule plan moves → DrawsDiffer (past plan moves).world → CallsStand plan moves
 calls_stand plan moves steps kept few schedule differ =

@@ -20,7 +20,7 @@ use Rattle.world_moves.specs.Ends.{EndStates, end_in}
 use Rattle.world_moves.specs.Moving.{end_of_peer}
 use Rattle.domain_world.specs.Accepting.SeenSteps.{Differ, NoRequests, requests_after, seen_or, seen_running}
 use Rattle.domain_world.specs.Past.{controller_number, controller_of_plan, sent_at}
-use Rattle.domain_world.proofs.Accepting.LetInStepLaws.{IsAcceptedBy}
+use Rattle.domain_world.proofs.Acceptance.LetInStepLaws.{IsAcceptedBy}
 use Rattle.domain_world.proofs.Messages.MessageOnceLaws.{set_cases}
 use Rattle.domain_world.proofs.Calls.LooserLaws.{drawn_before, requests_before, looser}
 use Rattle.domain_world.proofs.Calls.OutStepLaws.{IsOutIn, MemberHolds, StaysKnown, stays_known}
@@ -31,7 +31,7 @@ use Rattle.world_moves.specs.MemberPlans.{AreAlikeButSecrets}
 
 -- ---- the controller of a member keeps its number while no end comes or goes
 
--- as many ends of each kind
+-- there are as many ends of each kind
 pub record SameNumbers (ends later : EndStates) : Type 0 where
   pub controllers : length later.controllers ≡ length ends.controllers
   pub members : length later.members ≡ length ends.members
@@ -66,8 +66,8 @@ mark_there [] n one there = absurd (got_nothing n one there)
 mark_there (first ∷ sent) zero one there = ap (λ (s : Sent). Some s.mark) (some_is first one there)
 mark_there (first ∷ sent) (suc n) one there = mark_there sent n one there
 
--- after so many steps of ends, each of which uses two numbers at most
-abbrev pub requests_at : ℕ → List MemberPlan → EndStates → List (List ℕ) → List Sent → Requests ℕ
+-- the requests after `steps` steps of ends, each of which uses two numbers at most
+abbrev pub requests_at : (steps : ℕ) → List MemberPlan → EndStates → List (List ℕ) → List Sent → Requests ℕ
 requests_at n plans ends drawn sent = record { views = views_at plans ends; marks = marks_in sent; drawn = drawn; uses = 2 * n }
 
 -- calls are apart, of each member what it keeps is known, and each message came on a link that its member accepted
@@ -240,7 +240,7 @@ module _ (plans : List MemberPlan) (ends : EndStates) (at : ℕ) (new : MemberSt
       seen_found (slice_get (slice_set ends.members at new) j) j v refl
       (ap (λ (c : ℕ). seen_member c (slice_get (slice_set ends.members at new) j)) (sym (controller_same (slice_get plans j) ends with_new same_size)) ∙ seen)
 
-  -- of it what is known is given, and of the others what stays known
+  -- of the member that changed what is known is given, and of the others what stays known
   pub member_changed : (n later uses : ℕ) (drawn after : List (List ℕ)) (links : List Route) (sent more : List Sent) (messages messages_after : List MessageTaken) → uses ≤ 2 * later →
       CallsHold n plans ends drawn links sent messages →
       CallsAreApart (requests_after (views_at plans ends) at (controller_of_plan (slice_get plans at) ends) new.running (marks_in more) after uses) →

@@ -104,7 +104,7 @@ module _ (At : ℕ → Mark → Type 0) (Own : ℕ → Type 0) (Good : ℕ → �
       subst (Good link) (some_is first n number)
       (so link first mark (link_own place link logons.asked (lookup same_number place logons.asked) refl there each) at.0 (calls place refl).1)
 
-  -- where each logon that is kept came on such a link, the call of each has its mark
+  -- where `Own` holds of the link of each logon that is kept, each call of these units has its mark
   pub turns_marked : (units : List (ServedUnit AtTurn TurnTalk)) (numbers : List ℕ) → AllHold (EachFits (λ (at : ℕ) (logon : Logon). Own logon.link)) units →
       AtNumbers At (turn_marks (map (turn_note controller) units)) numbers → GoodTurns Good controller units numbers
   turns_marked [] numbers fits at = tt

@@ -34,10 +34,10 @@ use Rattle.world_moves.proofs.KeptLaws.{plans_alike}
 use Rattle.world_moves.proofs.PlainKindLaws.{plain_by, renew_plain_by}
 use Rattle.domain_world.specs.Claims.MarkedUnits.{CallsAreMarked, IsMarkedAsCall}
 use Rattle.domain_world.specs.Past.{Delivery, Past, at_member, controller_asked, marks_of, note_at, note_member, note_messages, numbers_on, past, sent_at}
-use Rattle.domain_world.proofs.Accepting.LetInLaws.{IsKept, Late, first_kept, kept_on}
-use Rattle.domain_world.proofs.Accepting.LetInStepLaws.{IsAcceptedBy, IsDialledBy}
-use Rattle.domain_world.proofs.Accepting.Turns.TurnFactLaws.{SameEnds}
-use Rattle.domain_world.proofs.Accepting.Turns.TurnQuietLaws.{change_same, same_ends}
+use Rattle.domain_world.proofs.Acceptance.LetInLaws.{IsKept, Late, first_kept, kept_on}
+use Rattle.domain_world.proofs.Acceptance.LetInStepLaws.{IsAcceptedBy, IsDialledBy}
+use Rattle.domain_world.proofs.Acceptance.Turns.TurnFactLaws.{SameEnds}
+use Rattle.domain_world.proofs.Acceptance.Turns.TurnQuietLaws.{change_same, same_ends}
 use Rattle.domain_world.proofs.Calls.CallMarkLaws.{IsCallMark, turns_marked}
 use Rattle.domain_world.proofs.Calls.CalledUnitLaws.{AllGood, IsGood, good_so, notes_good, turns_good}
 use Rattle.domain_world.proofs.Calls.WholeOutLaws.{AreAccepted, noted_accepted, one_acceptor}
@@ -56,7 +56,7 @@ use Rattle.domain_world.proofs.Moves.RequesterLaws.{asked_stays}
 
 -- ---- what is to hold
 
--- a member accepted that link, and the unit is marked as a call on a channel with the controller that it asks
+-- a member accepted that link, and the unit is marked as a call on a channel with the controller that the member asks
 record IsCallOn (plan : Plan) (links : List Route) (sent : List Sent) (link n : ℕ) : Type 0 where
   member : ℕ
   accepted : IsAcceptedBy links member link
@@ -64,16 +64,16 @@ record IsCallOn (plan : Plan) (links : List Route) (sent : List Sent) (link n : 
   marked : IsMarkedAs sent n mark
   call : IsCallMark (controller_asked (OfMember member) (plain_world plan).state) mark
 
--- each message came on a link that its member accepted, and its call is marked so
+-- each message came on a link that its member accepted, and the unit of its call is marked as a call (`IsCallOn`)
 record CallsStand (plan : Plan) (links : List Route) (messages : List MessageTaken) (sent : List Sent) : Type 0 where
   accepted : AreAccepted links messages
   calls : AllGood (IsCallOn plan links sent) messages
 
--- the plans of the members stay but for their secrets, and so does how many ends there are
+-- the plans of the members stay but for their secrets, as many ends stay, and each call has its mark (`CallsStand`)
 abbrev CallFact : Plan → MoveFact
 CallFact plan n p s given b = AreAlikeButSecrets plan.members s.member_plans × SameEnds (plain_world plan).state.ends s.ends × CallsStand plan s.links b.messages b.sent
 
--- It rests on what members keep, and on each unit's mark where bytes come.
+-- How calls are marked rests on what members keep, and on each unit's mark where bytes come.
 abbrev SideFact : MoveFact
 SideFact = Both (OfMoves IsKept) EvenFact
 
@@ -97,9 +97,9 @@ renew_same end s =
     (λ at plan is. record { controllers = refl; members = sym (length-set s.ends.members at _); clients = refl })
     (λ at plan is. record { controllers = refl; members = refl; clients = sym (length-set s.ends.clients at _) }) end
 
--- ---- it stays
+-- ---- what is to hold of calls stays
 
--- a unit that is written down stays so as more are
+-- a unit that is written down with a mark stays so as more are
 marked_more : (sent more : List Sent) (n : ℕ) (mark : Mark) → IsMarkedAs sent n mark → IsMarkedAs (sent ++ more) n mark
 marked_more sent more n mark it = record { one = it.one; there = got_append sent more n it.one it.there; is = it.is }
 
@@ -118,7 +118,7 @@ stand_more plan links messages sent more stand = record {
   calls = good_so (IsCallOn plan links sent) (IsCallOn plan links (sent ++ more)) (λ link n it. call_more plan links sent more link n it) messages stand.calls;
 }
 
--- a link is made
+-- a link that a member accepted stays so as a link is made
 accepted_more : (links : List Route) (route : Route) (k link : ℕ) → IsAcceptedBy links k link → IsAcceptedBy (links ++ route ∷ []) k link
 accepted_more links route k link it = record { route = it.route; at = got_append links (route ∷ []) link it.route it.at; acceptor = it.acceptor }
 
@@ -137,7 +137,7 @@ stand_linked plan links route messages sent stand = record {
 
 -- ---- bytes come at a member
 
--- each logon that it keeps came on a link that it accepted
+-- each logon that a member keeps came on a link that the member accepted
 logon_accepted : (X : Type 0) (most : ℕ) (links : List Route) (messages : List MessageTaken) (k place : ℕ) (logon : Logon) → AreAccepted links messages → HasFor X most k messages place logon →
     IsAcceptedBy links k logon.link
 logon_accepted X most links messages k place logon accepted has =
@@ -268,7 +268,7 @@ module _ (plan : Plan) where
   facts_first : (on : Option Delivery) → CallFacts 0 (started 0 on) (plain_world plan).state [] blank
   facts_first on = ((first_kept plan on, first_even plan on), (refl, same_ends (plain_world plan).state.ends, record { accepted = tt; calls = tt }))
 
--- the unit of each message's call is marked so
+-- the unit of each message's call is marked as a call, after every run in which nothing seals
 pub calls_marked : (plan : Plan) (moves : List Move) → NothingSeals plan → CallsAreMarked (past plan moves)
 calls_marked plan moves nothing =
     let p : Past = past plan moves in

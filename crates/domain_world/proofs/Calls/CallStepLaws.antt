@@ -26,7 +26,7 @@ use Rattle.world_moves.specs.Ends.{EndStates, client_step, with_client, with_mem
 use Rattle.world_moves.specs.Alone.{alone_controller_step as controller_step}
 use Rattle.domain_world.specs.Accepting.SeenSteps.{CoherentIf, Differ, HearsNone, requests_after, seen_or, seen_running}
 use Rattle.domain_world.specs.Past.{controller_of_plan}
-use Rattle.domain_world.proofs.Accepting.LetInStepLaws.{IsAcceptedBy, IsDialledBy}
+use Rattle.domain_world.proofs.Acceptance.LetInStepLaws.{IsAcceptedBy, IsDialledBy}
 use Rattle.domain_world.proofs.Calls.CallHoldsLaws.{CallsHold, differ_front, ends_other, marks_in, member_changed, more_steps, requests_at, views_at}
 use Rattle.domain_world.proofs.Calls.OutStepLaws.{MemberHolds, StaysKnown, none_out, not_bytes, quiet_holds}
 use Rattle.domain_world.proofs.Calls.StepApartLaws.{other_apart, seen_member}
@@ -116,7 +116,7 @@ module _ (n : ℕ) (plans : List MemberPlan) (ends : EndStates) (links : List Ro
       (hears_none (λ number. IsDialledBy links at number) m.running what dials) (coherent_if m.running own.asks) (ap (λ (x : Option MemberState). seen_member controller x) is) holds.apart differ)
       (quiet_holds links sent messages controller at m.running what now chances.left dials opens own) (λ k other. nothing_new links sent messages k) holds.accepted
 
-  -- it is made anew
+  -- a member that is made anew
   abbrev pub blank : View
   blank = record { stands = None; seed = None; opening = None; asking = None; call = 1 }
 

@@ -112,7 +112,7 @@ level_in (call.Authenticate c) = 0
 
 module _ (controller : ℕ) (at : AtTurn) (joiner : Option RpcUnit) (kept : AsksForKept true at.work.logons) (range : InRangeRequester at.work.logons.channel) (frames : List (List ℕ))
     (number place limit : ℕ) (least : 1432 ≤ limit) (most : limit ≤ 5840) where
-  -- it can be read back, and asks for what is kept
+  -- a logon that goes out can be read back, and asks for what is kept
   logon_sent : (c : LogonCall) → at.work.logons.channel.turn ≡ bound_at number place (call.Logon c) →
       frames ≡ frames_of (request_of at.work.logons.channel.next_call 0 (opnum_of_call (call.Logon c)) (written_call (call.Logon c))) limit →
       IsLogonSent at.work.logons.asked place (joined_frames frames)

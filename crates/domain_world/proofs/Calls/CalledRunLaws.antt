@@ -25,7 +25,7 @@ use Rattle.domain_world.specs.Past.{past}
 use Rattle.wire_base.proofs.ListLaws.{one_found}
 use Rattle.step_notes.proofs.Members.KeptLogonLaws.{IfDialled}
 use Rattle.domain_world.specs.Schedules.{OfSchedules}
-use Rattle.domain_world.proofs.Accepting.LetInStepLaws.{IsDialledBy}
+use Rattle.domain_world.proofs.Acceptance.LetInStepLaws.{IsDialledBy}
 use Rattle.domain_world.proofs.Quiet.QuietRunLaws.{has_bytes, quiet_first, quiet_keeps}
 use Rattle.domain_world.proofs.Quiet.QuietStepLaws.{MemberIsQuiet, QuietAction, QuietFact, QuietState, RunningIsQuiet}
 use Rattle.domain_world.proofs.Quiet.QuietTurnLaws.{IfOn}

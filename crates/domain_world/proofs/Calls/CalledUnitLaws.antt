@@ -60,8 +60,8 @@ use Rattle.world_moves.proofs.QuietLaws.{sent_goes}
 use Rattle.world_moves.specs.Plain.{plain_member_step as member_step}
 use Rattle.domain_world.proofs.Frames.AloneNoteLaws.{note_alone as note_at, note_controller_alone as note_controller}
 use Rattle.domain_world.proofs.Frames.AloneStepLaws.{act_alone as hear_and_act}
-use Rattle.domain_world.proofs.Accepting.LetInLaws.{none_if_taken}
-use Rattle.domain_world.proofs.Accepting.LetInStepLaws.{IsDialledBy}
+use Rattle.domain_world.proofs.Acceptance.LetInLaws.{none_if_taken}
+use Rattle.domain_world.proofs.Acceptance.LetInStepLaws.{IsDialledBy}
 use Rattle.domain_world.proofs.Frames.BagStepLaws.{BagKeeps, BookFact}
 use Rattle.domain_world.proofs.Moves.ComingLaws.{IsStill, StillHas, StillIn, kept_same, kept_sent}
 use Rattle.domain_world.proofs.Frames.FrameLaws.{HoldsIn}
@@ -167,7 +167,7 @@ good_so Good More so messages good = all_weaker (IsGood Good) (IsGood More) mess
 
 -- ---- the unit that carries the call of the message of a link
 
--- it asks what that message does
+-- a logon asks what a message on its link does
 pub record IsAskedOn (link : ℕ) (logon : LogonCall) (message : MessageTaken) : Type 0 where
   pub on : message.link ≡ link
   pub info : logon.info ≡ record (info_asked message) { logon_id = message.place }
@@ -285,7 +285,7 @@ module _ (route : Route) (end : EndId) (link controller : ℕ) (messages : List 
 
 -- ---- bytes come at a member
 
--- they come on the link of its turn, or its turn takes nothing
+-- bytes come on the link of a member's turn, or its turn takes nothing
 module _ (Own : ℕ → Type 0) where
   or_by : (hit : Bool) (said : LinkState TurnTalk) (other link : ℕ) (piece : List ℕ) (running : Running) (left : List (List ℕ)) → (other == link) ≡ hit → Own other →
       (turn_units_by hit said link piece running left ≡ []) ⊎ Own link

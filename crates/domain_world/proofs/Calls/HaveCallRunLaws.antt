@@ -37,9 +37,9 @@ use Rattle.world_moves.proofs.ChangeLaws.{by_change, member_begun}
 use Rattle.world_moves.proofs.PlainKindLaws.{members_plain, renew_plain_by}
 use Rattle.domain_world.specs.Claims.MarkedUnits.{AnswersHaveCalls}
 use Rattle.domain_world.specs.Past.{Delivery, at_member, controller_asked, note_at, note_member, note_messages, note_turns, numbers_on, past}
-use Rattle.domain_world.proofs.Accepting.LetInLaws.{IsKept, Late, first_kept, kept_on}
-use Rattle.domain_world.proofs.Accepting.LetInStepLaws.{IsDialledBy}
-use Rattle.domain_world.proofs.Accepting.Turns.TurnNotedLaws.{units_new}
+use Rattle.domain_world.proofs.Acceptance.LetInLaws.{IsKept, Late, first_kept, kept_on}
+use Rattle.domain_world.proofs.Acceptance.LetInStepLaws.{IsDialledBy}
+use Rattle.domain_world.proofs.Acceptance.Turns.TurnNotedLaws.{units_new}
 use Rattle.domain_world.proofs.Calls.AnsweredCallLaws.{AreCalled, CalledFor, HasCalled, IfAnswered, IsCalledOn, called_more}
 use Rattle.domain_world.proofs.Calls.CallComesLaws.{if_none, units_in_none}
 use Rattle.domain_world.proofs.Calls.CallFrameLaws.{TurnOn, dialled_on, turn_case}
@@ -58,12 +58,12 @@ use Rattle.domain_world.proofs.Moves.NoBytesLaws.{IsNoBytes}
 
 -- ---- what is to hold
 
--- It asks for what it keeps, and where its turn waits for the answer to a Logon call, that is written down.
+-- A member asks for what it keeps, and where its turn waits for the answer to a Logon call, the call is written down.
 record HasCalls (messages : List MessageTaken) (r : Option Running) : Type 0 where
   asks : AsksUnlessStopped r
   called : CalledFor messages r
 
--- so it is of each member, and each message whose answer was taken has a call
+-- `HasCalls` holds of each member, and each message whose answer was taken has a call
 record HaveCalls (members : List MemberState) (messages : List MessageTaken) : Type 0 where
   each : (k : ℕ) (m : MemberState) → slice_get members k ≡ Some m → HasCalls messages m.running
   answered : AreCalled messages
@@ -71,7 +71,7 @@ record HaveCalls (members : List MemberState) (messages : List MessageTaken) : T
 abbrev HaveFact : MoveFact
 HaveFact n p s given b = HaveCalls s.ends.members b.messages
 
--- ---- it stays
+-- ---- what is to hold of messages stays
 
 stays_called : (messages : List MessageTaken) → StaysBy (HasCalled messages)
 stays_called messages old new pending logon stays one = one
@@ -150,14 +150,14 @@ module _ (m : MemberState) (at : ℕ) (w : Delivery) (piece : List ℕ) (s : Sta
   abbrev new : MemberState
   new = (step_of m (event.Bytes w.link piece) s.moment s.chances.left).state
 
-  -- what is written down once these units of the turn are
+  -- the messages that are written down once these units of the turn are
   abbrev with_units : List (ServedUnit AtTurn TurnTalk) → List MessageTaken
   with_units all = (note_turns controller all carried numbers first).messages
 
   abbrev own : ℕ → Type 0
   own number = IsDialledBy s.links at number
 
-  -- what the step comes to
+  -- what a member's step comes to where bytes come
   record Comes : Type 0 where
     numbered : AreNumbered controller units numbers
     called : CalledFor (with_units units) new.running
@@ -172,7 +172,7 @@ module _ (m : MemberState) (at : ℕ) (w : Delivery) (piece : List ℕ) (s : Sta
   mine : HasCalls b.messages m.running
   mine = have.each at m there
 
-  -- on another link than that of its turn
+  -- bytes come on another link than that of the member's turn
   other_comes : IsOther m.running w.link → Comes
   other_comes other =
       let none : units ≡ [] =
@@ -197,7 +197,7 @@ module _ (m : MemberState) (at : ℕ) (w : Delivery) (piece : List ℕ) (s : Sta
         out = calls_so b.messages first.messages more (Some running) (subst (λ (x : MemberState). CalledFor b.messages x.running) is mine.called);
       }
 
-  -- on that link
+  -- bytes come on the link of the member's turn
   turn_comes : TurnOn m.running w.link → Comes
   turn_comes on =
       let late : Type 0 = Late (Some w) s.links at in

@@ -177,7 +177,7 @@ backward : (same back : Bool) → (same && back) ≡ true → back ≡ true
 backward true back is = is
 backward false back is = absurd (let x = is in cc)
 
--- what is sent on the link in that direction goes so
+-- what is sent on a link in a direction goes in that direction
 goes_so : (back : Bool) (link : ℕ) (unit : BagUnit) → is_sent_on link back unit ≡ true → unit.back ≡ back
 goes_so false link unit is = onward (unit.link == link) unit.back is
 goes_so true link unit is = backward (unit.link == link) unit.back is

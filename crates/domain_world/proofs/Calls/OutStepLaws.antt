@@ -48,7 +48,7 @@ use Rattle.step_notes.proofs.Members.CallKeptLaws.{step_asks}
 use Rattle.step_notes.proofs.Members.KeptLogonLaws.{Dials, HasFor, IfDialled, IsFor, KeptIn, OfEach, bytes_keep, each_found, kept_so, one_before, step_keeps}
 use Rattle.step_notes.proofs.Members.UnservedLaws.{LinksIn, Opens, bytes_took, in_so, step_known, took_known}
 use Rattle.world_moves.specs.declared.links.Route.{Route}
-use Rattle.domain_world.proofs.Accepting.LetInStepLaws.{IsAcceptedBy, IsDialledBy}
+use Rattle.domain_world.proofs.Acceptance.LetInStepLaws.{IsAcceptedBy, IsDialledBy}
 use Rattle.domain_world.proofs.Messages.KeptFirstLaws.{LeadsAfter, bytes_lead}
 use Rattle.member_server.proofs.StepFrame.{PartHolds, is_left}
 
@@ -61,11 +61,11 @@ pub record IsOf (member place : ℕ) (logon : Logon) (message : MessageTaken) : 
   pub same_logon : message.logon ≡ logon
   pub link : message.link ≡ logon.link
 
--- one of them is
+-- a message of the logon is among the messages
 abbrev pub HasOne : ℕ → List MessageTaken → ℕ → Logon → Type 0
 HasOne member messages place logon = OneOf (IsOf member place logon) messages
 
--- it has its call out, among these units, with that number, on the channel that stands
+-- a message has its call out, among `units`, with the number that is pending, on the channel that stands
 pub record IsOutIn (units : List Sent) (member : ℕ) (pending : Pending) (logon : Logon) (standing : Option ChannelIdentity) (message : MessageTaken) : Type 0 where
   pub link : message.link ≡ logon.link
   pub by : message.member ≡ member
@@ -78,9 +78,9 @@ pub record IsOutIn (units : List Sent) (member : ℕ) (pending : Pending) (logon
   pub stands : standing ≡ Some channel
   pub mark : unit.mark ≡ Calling channel pending.number timestamp
 
--- where the turn waits for the answer to a Logon call, it holds of that turn, of the logon that is kept for it, and of
+-- where the turn waits for the answer to a Logon call, `P` holds of that turn, of the logon that is kept for it, and of
 -- the requester
-abbrev pub OutBy : (Pending → Logon → Requester → Type 0) → Option Running → Type 0
+abbrev pub OutBy : (P : Pending → Logon → Requester → Type 0) → Option Running → Type 0
 OutBy P None = Unit {0}
 OutBy P (Some running) =
     (pending : Pending) (logon : Logon) → running.logons.channel.turn ≡ Some pending → pending.step ≡ step.Reply question.Logon →
@@ -109,8 +109,8 @@ pub record StaysOut (old new : Requester) (pending : Pending) : Type 0 where
   pub standing : new.standing ≡ old.standing
   pub caller : new.caller ≡ old.caller
 
--- it holds on while the turn is out, on the same channel
-abbrev pub StaysBy : (Pending → Logon → Requester → Type 0) → Type 0
+-- `P` holds on while the turn is out, on the same channel
+abbrev pub StaysBy : (P : Pending → Logon → Requester → Type 0) → Type 0
 StaysBy P = (old new : Requester) (pending : Pending) (logon : Logon) → StaysOut old new pending → P pending logon old → P pending logon new
 
 asked_out : (full : Bool) (s : Requester) (info : NetworkInfo) (pending : Pending) (new : Requester) → StaysOut (ask_by full s info).state new pending → StaysOut s new pending
@@ -156,7 +156,7 @@ next_out true false now mid before new after pending q next can out reply =
 next_out true true now mid before new after pending q next can out reply =
     absurd (start_out mid.turn mid.waiting mid _ next.0 pending q can (subst (λ (x : Requester). x.turn ≡ Some pending) next.2 out) reply)
 
--- so it is of the event, and no turn started after it
+-- a call that is out stays out through the event, and no turn started after it
 pub record OutSteps (old : Requester) (first : Result (Part DialWork) StepRefused) (new : Requester) (pending : Pending) : Type 0 where
   pub stays : StaysOut old new pending
   pub part : Part DialWork
@@ -206,7 +206,7 @@ only_first pending (entry ∷ asked) first apart = record {
   );
 }
 
--- so it is of the place of the turn
+-- the logon at the place of the turn is the only one kept there
 pub only_kept : (dialled : Bool) (l : Logons) (pending : Pending) → AsksForKept dialled l → l.channel.turn ≡ Some pending → IsOnly pending.place l.asked
 only_kept dialled l pending asks out =
     only_first pending l.asked
@@ -240,7 +240,7 @@ any_dialled dialling.Nothing = tt
 any_dialled (dialling.Waits turn frames) = tt
 any_dialled (dialling.On number said) = tt
 
--- so many moves are made
+-- a message as it is once `n` moves are made
 abbrev at_now : ℕ → MessageTaken → MessageTaken
 at_now n message = record message { at = n }
 
@@ -278,7 +278,7 @@ out_known units more messages after controller member None so out = tt
 out_known units more messages after controller member (Some running) so out =
     λ pending logon turn reply there. so pending logon (standing_channel controller running.logons.channel) (out pending logon turn reply there)
 
--- as other things come
+-- what is known of a member stays known as other things come
 pub stays_known : (links later : List Route) (units more : List Sent) (messages after : List MessageTaken) (controller member : ℕ) (r : Option Running) →
     StaysKnown links later units more messages after member → MemberHolds links units messages controller member r → MemberHolds later more after controller member r
 stays_known links later units more messages after controller member r so holds = record {
@@ -353,7 +353,7 @@ quiet_holds links units messages controller member r what now left dials opens h
 
 -- ---- bytes come, but not on the link of the turn
 
--- whether it is that link
+-- `number` isn't the link of the member's turn
 abbrev pub IsOther : Option Running → ℕ → Type 0
 IsOther None number = Unit {0}
 IsOther (Some running) number = is_turn_link running.dialling number ≡ false

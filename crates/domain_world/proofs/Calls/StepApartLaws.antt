@@ -69,11 +69,11 @@ fresh_last (first ∷ draws) challenge differ is = elim is [
 
 -- ---- one requester among those that are seen
 
--- that one is seen so
+-- the requester `who` is seen as `v`
 abbrev pub seen_with : (ℕ → Option View) → ℕ → View → List Mark → List (List ℕ) → ℕ → Requests ℕ
 seen_with views who v marks drawn uses = record { views = λ j. seen_if (j == who) v (views j); marks = marks; drawn = drawn; uses = uses }
 
--- it is coherent, and calls are apart where it is seen so
+-- a requester is coherent, and calls are apart where it is seen as that requester
 pub record StandsApart (views : ℕ → Option View) (who controller : ℕ) (s : Requester) (marks : List Mark) (drawn : List (List ℕ)) (uses : ℕ) : Type 0 where
   pub coherent : IsCoherent s
   pub apart : CallsAreApart (seen_with views who (view_of controller s) marks drawn uses)
@@ -164,7 +164,7 @@ module _ (views : ℕ → Option View) (who controller : ℕ) where
         again (view_of controller s) t (marks ++ mark ∷ []) drawn uses 1 (uses + 1) (omega arith) after in
         record { coherent = so.coherent; apart = fewer_marks (seen_with views who (view_of controller t) marks drawn (uses + 1)) mark more none so.apart }
 
-    -- it is, behind others
+    -- a requester with a mark that is placed behind others
     pub with_front : (mark : Mark) (is : IsPlaced more mark) → StandsApart views who controller s (marks ++ is.front) drawn uses
     with_front mark is = record { coherent = stands.coherent; apart = more_marks (seen_with views who (view_of controller s) marks drawn uses) is.front is.before stands.apart }
 

@@ -1,6 +1,6 @@
 -- Through the units that come on the link of a member's turn, however many come in one piece: where the turn waits for
--- the answer to a Logon call, a message on the link of its logon has a call, and so it is where its answer was taken.
--- It serves `Proved.have_calls`.
+-- the answer to a Logon call, a message on the link of its logon has a call, and a message whose answer was taken has
+-- one. It serves `Proved.have_calls`.
 use Rattle.std.proofs.Common.{◌≡◌, ◌⊎◌, ℕ, ◌==◌, Bool, true, false, List, [], ◌∷◌, ◌++◌, length, inl, inr, Option, Some, None, Result, Ok, Err, refl, sym, ap, ◌∙◌, subst, slice_get}
 use Rattle.std.specs.List.{AllByRecursion}
 use Rattle.std.proofs.lemmas.Bool.Decides.{Decides-eqb}
@@ -77,7 +77,7 @@ use Rattle.world_moves.specs.Plain.{plain_member_step as member_step}
 use Rattle.world_moves.proofs.LinkFrameLaws.{actions_stay}
 use Rattle.world_moves.proofs.QuietLaws.{sent_goes}
 use Rattle.domain_world.specs.Past.{Delivery, change_if, change_message, first_of, later_of, note_turn, note_turns, numbers_on, with_answer, with_call}
-use Rattle.domain_world.proofs.Accepting.LetInStepLaws.{IsDialledBy}
+use Rattle.domain_world.proofs.Acceptance.LetInStepLaws.{IsDialledBy}
 use Rattle.domain_world.proofs.Calls.AnsweredCallLaws.{AreCalled, CalledAt, CalledFor, GoesNumbered, IsCalledOn, answer_called, calls_go_out, noted_called, noted_stays}
 use Rattle.domain_world.proofs.Calls.CalledUnitLaws.{numbers_first}
 use Rattle.domain_world.proofs.Calls.OutStepLaws.{none_out, start_out}
@@ -102,11 +102,11 @@ ended_channel place how w after (Reaches logon link bound held kept there is) =
     let served : Served = serve_held held at talk in
     kept_channel served.1 link.rest logon.link served.0 alone ∙ ap (λ (l : Logons). l.channel) (held_idle held at talk (ended_serves how logon bound)).0
 
--- a logon that ends leaves it
+-- a logon that ends leaves the channel
 end_channel : (place : ℕ) (how : Ending) (w : Work) → (end_logon place how w).logons.channel ≡ w.logons.channel
 end_channel place how w = ended_channel place how w (end_logon place how w) (end_view place how w)
 
--- and so does whatever follows of a unit
+-- whatever follows of a unit that was taken leaves the channel
 taken_channel : (t : Taken) (joiner : Option RpcUnit) (at : AtTurn) → (do_taken t joiner at).0.work.logons.channel ≡ at.work.logons.channel
 taken_channel t joiner at =
     taken_by t joiner (turn_work at) (λ served. (after_turn_served served at).0.work.logons.channel ≡ at.work.logons.channel) (record {
@@ -123,7 +123,7 @@ broken_channel cause at =
     end_channel (lose_of at.work.logons.channel).place (ending.NoController drop_cause.BadReply)
     (tell_at (with_requester at.work (lose_of at.work.logons.channel).state) (action.Close at.link cause))
 
--- no turn is out then
+-- no turn is out once a unit was refused
 broken_none : (cause : CloseCause) (at : AtTurn) (messages : List MessageTaken) → CalledAt messages (break_turn cause at).0.work.logons
 broken_none cause at messages pending logon turn reply there =
     absurd (none_out pending (ap (λ (c : Requester). c.turn) (sym (broken_channel cause at)) ∙ turn))
@@ -141,8 +141,8 @@ module _ (controller : ℕ) (c : Requester) where
 
 -- ---- which units have numbers
 
--- each that is a call has one
-abbrev pub AreNumbered : ℕ → List (ServedUnit AtTurn TurnTalk) → List ℕ → Type 0
+-- each unit that comes to a call has a number
+abbrev pub AreNumbered : (controller : ℕ) (units : List (ServedUnit AtTurn TurnTalk)) (numbers : List ℕ) → Type 0
 AreNumbered controller [] numbers = Unit {0}
 AreNumbered controller (unit ∷ units) numbers =
     GoesNumbered (turn_note controller unit) (first_of numbers) × AreNumbered controller units (later_of (turn_note controller unit).sends numbers)
@@ -163,14 +163,15 @@ turns_stay link controller carried (unit ∷ units) numbers b numbered one =
 -- ---- a unit of the turn
 
 -- the message came on that link
-abbrev IsOn : ℕ → MessageTaken → Type 0
+abbrev IsOn : (link : ℕ) (message : MessageTaken) → Type 0
 IsOn link message = message.link ≡ link
 
--- one of them came on the link of the logon
+-- one of the messages came on the link of the logon
 abbrev pub HasOn : List MessageTaken → ℕ → Logon → Type 0
 HasOn messages place logon = OneOf (IsOn logon.link) messages
 
--- each logon that is kept has its message, and where the turn waits for the answer to a Logon call, its message has one
+-- each logon that is kept has its message, and where the turn waits for the answer to a Logon call, the message of its
+-- logon has a call
 pub record KeepsCalled (messages : List MessageTaken) (logons : Logons) : Type 0 where
   pub each : OfEach (HasOn messages) logons.asked
   pub out : CalledAt messages logons
@@ -388,8 +389,8 @@ module _ (route : Route) (end : EndId) (link controller : ℕ) (own : is_own (ki
       (taking_goes (taking_read (unit_of unit.bytes) unit.talk.joiner unit.work.work.logons.channel) controller unit.work.work.logons.channel) first
       (λ more u goes still next. turns_numbered units more u later goes still next on.1)
 
--- each of them comes on that link
-abbrev IsPartOn : ℕ → ServedPart AtTurn TurnTalk → Type 0
+-- where units of the turn were served, the turn that they leave is still on that link
+abbrev IsPartOn : (link : ℕ) (part : ServedPart AtTurn TurnTalk) → Type 0
 IsPartOn link (Err why) = Unit {0}
 IsPartOn link (Ok part) = part.value.0.link ≡ link
 

@@ -123,7 +123,7 @@ whole_units running number said bytes frames unit left on rest none heard =
 abbrev AreNone : AtTurn → List (ServedUnit AtTurn TurnTalk) → Type 0
 AreNone at before = AllByRecursion (λ (served : ServedUnit AtTurn TurnTalk). (taking_at served ≡ None) × (served.work ≡ at)) before
 
--- these actions begin with a request on that link
+-- actions that begin with a request on that link
 pub record SendsFirst (link : ℕ) (actions : List Action) : Type 0 where
   pub bytes : List ℕ
   pub more : List Action
@@ -253,7 +253,7 @@ sent_first route end link bytes more actions s made between is =
           ∙ append_assoc s.bag (unit_on route end link bytes ∷ []) later.units;
     }
 
--- it has the first number, and the mark
+-- a unit that is sent has the first number, and the mark
 pub sent_as : (note : TurnNote) (link at : ℕ) (own : BagUnit) (before after : List BagUnit) (units : List Sent) → is_sent_on link false own ≡ true → length units ≡ length before →
     IsFirstNew own before after →
     IsSentAs note (first_of (numbers_on link false before after)) (units ++ map (sent_at at) (marks_of link false (drop (length before) after) (note.mark ∷ [])))

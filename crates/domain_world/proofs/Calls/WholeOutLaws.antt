@@ -55,7 +55,7 @@ use Rattle.world_moves.specs.declared.links.EndId.TheVariants.{Member}
 use Rattle.world_moves.specs.declared.links.Route.{Route}
 use Rattle.world_moves.specs.Links.{acceptor_of}
 use Rattle.domain_world.specs.Past.{change_if, change_message, with_answer, with_call}
-use Rattle.domain_world.proofs.Accepting.LetInStepLaws.{IsAcceptedBy, IsDialledBy}
+use Rattle.domain_world.proofs.Acceptance.LetInStepLaws.{IsAcceptedBy, IsDialledBy}
 use Rattle.domain_world.proofs.Messages.MessageNoteLaws.{changed, map_one}
 use Rattle.domain_world.proofs.Calls.OutStepLaws.{HasOne, IsOf, IsOutIn, MemberHolds, OutFor, OutSteps, StaysKnown, bytes_accepts, bytes_kept, none_out, out_steps, same_channel}
 
@@ -184,7 +184,7 @@ out_answer units member pending logon standing carried message is = record {
   mark = is.mark;
 }
 
--- as units come, on the same channel
+-- a call that is out stays out as units come, on the same channel
 pub out_more : (units more : List Sent) (member : ℕ) (pending : Pending) (logon : Logon) (old new : Option ChannelIdentity) (message : MessageTaken) →
     ((k : ℕ) (unit : Sent) → slice_get units k ≡ Some unit → slice_get more k ≡ Some unit) → old ≡ new → IsOutIn units member pending logon old message → IsOutIn more member pending logon new message
 out_more units more member pending logon old new message grown same is = record {
@@ -283,7 +283,7 @@ module _ (units more : List Sent) (grown : (k : ℕ) (unit : Sent) → slice_get
             (onward (IsOf member pending.place logon) (each_found (HasOne member messages) pending.place running.logons.asked logon before kept.0))
       ]
 
--- ---- so it is of the member whose turn it is
+-- ---- the member whose turn it is
 
 -- with what is written down of the unit
 pub whole_holds : (links : List Route) (units more : List Sent) (messages : List MessageTaken) (controller : ℕ) (w : LinkAt) (running : Running) (said : LinkState TurnTalk)
@@ -312,7 +312,7 @@ whole_holds links units more messages controller w running said bytes frames uni
           (event_part running (event.Bytes w.link bytes) now left) running w.link said bytes frames unit now left own on rest none heard refl holds.asks.coherent holds.kept holds.out sent;
     }
 
--- ---- and of the others
+-- ---- the other members
 
 -- each message came on a link that its member accepted
 abbrev pub AreAccepted : List Route → List MessageTaken → Type 0

@@ -33,7 +33,7 @@ use Rattle.domain_world.proofs.Challenges.LinkUnitLaws.{unit_draws, unit_sends, 
 
 -- ---- the challenges that are left
 
--- those that were left are the challenges of what is written down, and those that are left then
+-- the challenges that were left are those that are written down, and those that are left then
 abbrev Remain : {T : Type 0} → List (List ℕ) → List ChallengeSent → Result (Part T) StepRefused → Type 0
 Remain all sent (Err why) = Unit {0}
 Remain all sent (Ok part) = all ≡ challenges_in sent ++ part.left

@@ -117,7 +117,7 @@ abbrev pub IsItsOwn : Notes → List Route → MessageTaken → Type 0
 IsItsOwn notes links one =
     IsLinkIn links one.link one.member × OneOf (IsSentOn one.member one.link one.logon.challenge) notes.challenges × OneOf (λ (link : ℕ). link ≡ one.link) notes.taken
 
--- another draw gave it
+-- two challenges were given by different draws
 abbrev pub OfOtherDraw : ChallengeSent → ChallengeSent → Type 0
 OfOtherDraw one other = one.draw ≢ other.draw
 

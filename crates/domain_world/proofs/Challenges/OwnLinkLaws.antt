@@ -166,7 +166,7 @@ module _ (w : LinkAt) where
       (all_weaker (IsTakenIn w rest) (IsTakenIn w (one ++ rest)) (flat_map (message_note w) units) (λ message its. (its.0, its.1, one_behind (λ (link : ℕ). link ≡ w.link) one rest its.2))
       (all_taken units))
 
--- those that are sent on a link are among those that are written down
+-- the challenges that are sent on a link are among those that are written down
 pub sent_among : (member link : ℕ) (front sent : List ChallengeSent) → AllByRecursion (λ (one : ChallengeSent). (one.link ≡ link) × (one.member ≡ member)) sent →
     AllByRecursion (λ (one : ChallengeSent). OneOf (IsSentOn member link one.challenge) (front ++ sent)) sent
 sent_among member link front [] all = tt
@@ -178,7 +178,7 @@ sent_among member link front (one ∷ sent) all = (
 
 -- ---- an AUTHENTICATE that is taken keeps the challenge of its link
 
--- so does each that is written down
+-- each message that is written down keeps the challenge of its link
 abbrev KeepChallenge : List ℕ → List MessageTaken → Type 0
 KeepChallenge challenge messages = AllByRecursion (λ (one : MessageTaken). one.logon.challenge ≡ challenge) messages
 
@@ -197,12 +197,12 @@ takes_ask (Some talk) w bytes challenge messages links before after takes = on_a
 
 -- ---- the units of a stream
 
--- the challenges that are written down of units are such
-abbrev pub AreSent : LinkAt → (List ℕ → Type 0) → List (ServedUnit AtLink Talk) → Type 0
+-- `D` holds of the challenges that are written down of units
+abbrev pub AreSent : LinkAt → (D : List ℕ → Type 0) → List (ServedUnit AtLink Talk) → Type 0
 AreSent w D units = AllByRecursion (λ (sent : ChallengeSent). D sent.challenge) (flat_map (challenge_note w) units)
 
--- so are those of the messages that are written down, and the one that the link has then
-abbrev pub AreFor : LinkAt → Type 0 → (List ℕ → Type 0) → List (ServedUnit AtLink Talk) → ServedPart AtLink Talk → Type 0
+-- `D` holds of the challenges of the messages that are written down, and of the one that the link has then
+abbrev pub AreFor : LinkAt → Type 0 → (D : List ℕ → Type 0) → List (ServedUnit AtLink Talk) → ServedPart AtLink Talk → Type 0
 AreFor w F D units part = AllByRecursion (λ (one : MessageTaken). F × D one.logon.challenge) (flat_map (message_note w) units) × IfUnservedPart (IsKnown F D) part
 
 module _ (w : LinkAt) (F : Type 0) (D : List ℕ → Type 0) where

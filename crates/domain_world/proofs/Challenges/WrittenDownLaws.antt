@@ -19,14 +19,14 @@ use Rattle.domain_world.specs.Claims.WrittenDown.{IsChallengeOf, IsMessageOf, Me
 use Rattle.domain_world.specs.Past.{Past, past}
 use Rattle.step_notes.proofs.Members.KeptLogonLaws.{HasFor, IsFor, KeptIn, each_found}
 use Rattle.step_notes.proofs.Members.UnservedLaws.{IfUnserved, LinksIn, found_known}
-use Rattle.domain_world.proofs.Accepting.LetInLaws.{HoldsOf, run_holds}
-use Rattle.domain_world.proofs.Accepting.LetInStepLaws.{IsDialledBy}
+use Rattle.domain_world.proofs.Acceptance.LetInLaws.{HoldsOf, run_holds}
+use Rattle.domain_world.proofs.Acceptance.LetInStepLaws.{IsDialledBy}
 use Rattle.domain_world.proofs.Challenges.OwnChallengeLaws.{links_own}
 use Rattle.domain_world.proofs.Challenges.OwnLinkLaws.{IsOwn}
 
 -- ---- the logons that are kept
 
--- it wasn't taken late
+-- a logon that wasn't taken late was taken before
 taken_before : (at most : ℕ) → (at < most) ⊎ (⊥ × (at ≡ most)) → at < most
 taken_before at most (inl before) = before
 taken_before at most (inr late) = absurd late.0

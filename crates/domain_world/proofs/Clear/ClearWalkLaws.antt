@@ -66,7 +66,7 @@ record IsMet (plan : Plan) (p : Arrival) : Type 0 where
   planned : IsPlanned plan p (first_world plan).state
   own : IsThere plan p → IsOwn plan p
 
--- it is in a phase, or over; its client is let in; or its dial reaches nobody. No credential clashed
+-- a logon is in a phase, or over; its client is let in; or its dial reaches nobody. No credential clashed
 data Stage (plan : Plan) (p : Arrival) (s : State) (b : Book) : Type 0 where
   Goes : IsMet plan p → (at : IsAnywhere plan p s) → IsClearFor p (progress_in at.phase) s b → Stage plan p s b
   Over : IsDone plan p s → IsClean s b → Stage plan p s b

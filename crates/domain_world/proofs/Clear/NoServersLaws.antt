@@ -47,7 +47,7 @@ use Rattle.world_moves.specs.Alone.{IsPlainAlone, hear_alone}
 use Rattle.domain_world.specs.Past.{Delivery, book, controller_asked, note, note_member, past}
 use Rattle.domain_world.proofs.Frames.AloneNoteLaws.{note_alone as note_at}
 use Rattle.domain_world.proofs.Frames.AloneStepLaws.{act_alone}
-use Rattle.domain_world.proofs.Accepting.LetInStepLaws.{IsDialledBy}
+use Rattle.domain_world.proofs.Acceptance.LetInStepLaws.{IsDialledBy}
 use Rattle.domain_world.proofs.Quiet.QuietRunLaws.{has_bytes, quiet_first, quiet_keeps}
 use Rattle.domain_world.proofs.Quiet.QuietStepLaws.{MemberIsQuiet, QuietAction, QuietFact, QuietState}
 use Rattle.domain_world.proofs.Quiet.QuietTurnLaws.{IfOn}
@@ -156,7 +156,7 @@ clear_while plan moves nobody is all =
     (quiet_first plan is.start is.forms, λ none. refl) in
     after.holds.1 all
 
--- ---- so each does, where there are no controllers
+-- ---- each link is to a member, where there are no controllers
 
 -- an end hears, acts, or shuts a link: no link is made
 abbrev StaysToMembers : State → State → Type 0

@@ -49,7 +49,7 @@ no_more_moves s Before k b before = before
 
 -- ---- what holds of what is written down
 
--- no clash, at most so many calls were judged, and each unit of the bag is marked
+-- no clash, at most `count` calls were judged, and each unit of the bag is marked
 pub record Fine (s : State) (count : ℕ) (b : Book) : Type 0 where
   pub apart : b.clash ≡ false
   pub few : length b.judged ≤ count
@@ -71,7 +71,7 @@ grows s what = no_longer s.bag (act s what).state.bag (λ number unit there. let
 filled : (count more : ℕ) → count ≤ more → count + (more - count) ≡ more
 filled count more few = omega arith
 
--- the other things that are written down of a move change nothing of that
+-- what else is written down of a move leaves the book fine
 pub given_fine : (k : ℕ) (given : Given) (after : State) (count : ℕ) (b : Book) → b.clash ≡ false → length b.judged ≤ count → length b.sent ≤ length after.bag →
     Fine after count (note_given k given after b)
 given_fine k given after count b apart few marked = record {
@@ -106,7 +106,7 @@ turns_fine controller [] unit numbers b apart own = (apart, refl, refl)
 turns_fine controller (served ∷ units) unit numbers b apart own =
     turns_fine controller units unit _ (note_turn (turn_note controller served) served unit _ b) (or_none b.clash (clashes (turn_note controller served).checked unit b.sent) apart own.0) own.1
 
--- what is written down at a member or a controller: no clash, so many calls, and marks of the new units
+-- what is written down at a member or a controller: no clash, at most `count` calls, and marks of the new units
 pub record Written (k link : ℕ) (back : Bool) (s after : State) (count : ℕ) (marks : List Mark) (b now : Book) : Type 0 where
   pub apart : now.clash ≡ false
   pub few : length now.judged ≤ count

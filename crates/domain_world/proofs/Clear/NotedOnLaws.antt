@@ -87,7 +87,7 @@ onward_waits s unit end came k link back count mark next b now is marked written
       made = refl;
     })
 
--- it is the one that comes next
+-- the unit that waits is the one that comes next
 pub waits_marked : (s : State) (channel : Option ChannelIdentity) (b : Book) (number : ℕ) → Waits s channel b → first_waiting s.bag ≡ Some number → channel_marked (Some number) b.sent ≡ channel
 waits_marked s channel b number waits first =
     let same : waits.number ≡ number = (let both : Some waits.number ≡ Some number = sym waits.first ∙ first in cc) in

@@ -85,7 +85,7 @@ module _ (controller : ℕ) (channel : Requester) (unit : RpcUnit) (number : Opt
   pub takes_own : IsOwnTaking
   takes_own = taking_own (take_of channel unit).taken refl
 
--- nor is any where the reply is dropped
+-- a reply that is dropped clashes with no mark
 pub drops_own : (controller : ℕ) (channel : Requester) (number place : ℕ) (q : Question) (r : Reply) (cause : DropCause) (unit : Option ℕ) (sent : List Sent) → IsTurnReply q r →
     judge q r channel.standing channel.caller.secret ≡ judgement.Drop cause →
     clashes (taking_note (Some (take_of (turn_at number place (step.Reply q) channel) (turn_response number r))) controller (turn_at number place (step.Reply q) channel)).checked unit sent ≡ false

@@ -187,7 +187,7 @@ pub record IsPlanned (plan : Plan) (p : Arrival) (s : State) : Type 0 where
   pub is_plan : slice_get (map but_secret s.member_plans) p.meeting.at_member ≡ Some (but_secret p.meeting.plan)
   pub reach : IsThere plan p → end_of_peer p.meeting.plan.controller s.ends ≡ Some (Controller p.meeting.at_controller)
 
--- both ends name the channel alike
+-- both ends of a channel name it alike
 named_alike : (controller : ℕ) (computer : List ℕ) (o c : SecureChannelState) → IsInStep o c → channel_of controller computer c ≡ channel_of controller computer o
 named_alike controller computer o c is =
     ap₂ (λ (secret client : List ℕ). record { controller = controller; computer = computer; secret = secret; client = client; server = c.server; flags = c.flags }) is.secret is.client
@@ -393,7 +393,7 @@ module _ (plan : Plan) (p : Arrival) (s : State) (k : ℕ) (b : Book) (able : Is
             (replied_bag s t (after v.next) v.next (step.Reply question.Authenticate) call v.computers left left moment (reply_bytes v.next r) _ called.came.number (between_on (Second client server) is) steps shows) in
             record { clean = clean_of (goes s) count now f.fine; waits = inl f.waits }
 
-        -- it is refused, where there is none
+        -- the opening is refused, where there is no account
         denied_clear : (client server : List ℕ) → HasNone p client server → IsPlannedTurn p v → Shows s (scene_of p (Calls a who v (Second client server)) left moment) → After (WasOpened client server)
         denied_clear client server none is_planned shows =
             let t : TurnScene = t_on (Second client server) in

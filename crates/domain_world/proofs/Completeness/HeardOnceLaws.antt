@@ -57,7 +57,7 @@ use Rattle.logon_steps.proofs.TurningLaws.{netlogon_heard, other_number, request
 
 -- ---- what answers come to
 
--- these answers come to what this one does
+-- several answers come to what one of them does
 pub record ComeTo (answers : List Answered) (one : Answered) : Type 0 where
   pub clash : (unit : Option ℕ) (sent : List Sent) → any_clash answers unit sent ≡ (clashes one.checked unit sent || false)
   pub judged : (numbers : List ℕ) → judged_of answers numbers ≡ judged_of (one ∷ []) numbers
@@ -81,7 +81,7 @@ units_here table name computers link now talk piece left =
     ap (λ (found : Bool). units_if_taken (step_of (controller_at table name computers (one_link link talk)) (event.Bytes link piece) now left).answer
     (units_at (if found then Some here else None) link piece (controller_at table name computers (one_link link talk)) (record { computers = computers; links = one_link link talk }) now left)) (same link)
 
--- either none or all of them
+-- what holds of none and of all of the units holds of those of the step
 pub either_way : {U : Type 0} (P : List U → Type 0) (answer : Result (List Action) StepRefused) (units : List U) → P [] → P units → P (units_if_taken answer units)
 either_way P (Ok actions) units none all = all
 either_way P (Err why) units none all = none

@@ -71,7 +71,7 @@ passing_judging : (channel : Option ChannelIdentity) (j : Judging) → (passing 
 passing_judging None j = refl
 passing_judging (Some channel) j = refl
 
--- it is written down in front of the others, with its reply
+-- a judging is written down in front of the others, with its reply
 newest : (P : Judging → Type 0) (one : Answered) (j : Judging) (numbers : List ℕ) (older : List Judging) → one.judging ≡ Some j →
     ((number : Option ℕ) → P (record j { reply = number })) → OneOf P (onto (judged_of (one ∷ []) numbers) older)
 newest P one j numbers older is holds =

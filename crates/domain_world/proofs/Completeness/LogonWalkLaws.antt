@@ -76,7 +76,7 @@ pub record IsSoFar (p : Arrival) (s : State) (b : Book) : Type 0 where
   pub comes : ComesSoFar p far s
   pub written : IsWritten p far b
 
--- besides, few challenges were drawn
+-- a logon has come so far, and few challenges were drawn
 record GoesSoFar (p : Arrival) (s after : State) (b : Book) : Type 0 where
   so_far : IsSoFar p after b
   few : DrawsFew s.chances.left after.chances.left

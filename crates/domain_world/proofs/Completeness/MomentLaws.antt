@@ -14,7 +14,7 @@ use Rattle.world_moves.proofs.StateFrameLaws.{HoldsMoving, StateFact, move_so}
 use Rattle.logon_steps.proofs.ClientStepLaws.{clients_step}
 use Rattle.logon_runs.proofs.Scenes.StartLaws.{begun_so}
 
--- ---- it stays below 2^64
+-- ---- the moment stays below 2^64
 
 abbrev StaysBelow : StateFact
 StaysBelow s after = s.moment < 2 ^ 64 → after.moment < 2 ^ 64

@@ -42,7 +42,7 @@ use Rattle.domain_world.proofs.Completeness.JudgedNoteLaws.{IsGrant, grant_noted
 abbrev pub IsTold : Arrival → ClientAnswer → OutcomeTold → Type 0
 IsTold p a told = (told.link ≡ (own p).link) × (told.member ≡ p.meeting.at_member) × (told.outcome ≡ outcome.In p.table.domain p.account.name (key_at p a))
 
--- of a logon that is so far
+-- what is written down of a logon that has come so far
 abbrev pub IsWritten : Arrival → Progress → Book → Type 0
 IsWritten p NotYet b = Unit {0}
 IsWritten p (IsOpening client server) b = Unit {0}

@@ -92,12 +92,12 @@ now_closes plan s client task first count now enough going dials units =
 
 -- ---- a state of the run
 
--- the world rests, with challenges for so many moves
+-- the world rests, with challenges for `left` moves
 pub record Resting (plan : Plan) (left : ℕ) (s : State) : Type 0 where
   pub rest : AtRest plan s
   pub enough : HasEnough left s.chances.left
 
--- or that client goes on, which started when the world rested so
+-- a client goes on which started when the world was at rest
 pub record Started (plan : Plan) (left : ℕ) (s : State) (client : ℕ) (now : State) : Type 0 where
   pub task : ClientPlan
   pub first : State
@@ -224,7 +224,7 @@ along_next plan what moves w along = record {
 
 -- ---- a client that isn't started any more
 
--- it is as it was when the world rested
+-- a client that isn't started any more is as it was when the world rested
 record KeepsIn (plan : Plan) (left client : ℕ) (value : Option ClientState) (now : State) : Type 0 where
   s : State
   other : ℕ

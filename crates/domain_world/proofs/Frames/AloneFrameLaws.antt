@@ -78,7 +78,7 @@ abbrev IsOthersDial : Option EndId → Type 0
 IsOthersDial None = Unit {0}
 IsOthersDial (Some end) = IsOther end
 
--- and so it is while a move is under way
+-- a world is alone while a move is under way
 record GoesAlone (p : Progress) (s : State) : Type 0 where
   state : IsAlone s
   dial : IsOthersDial p.dial
@@ -162,7 +162,7 @@ alone_dials end what s =
     alone_by (λ (one : EndId) (step : EndStep). DialsAreOthers (given_by one step.actions)) what s.moment s.ends s.chances (λ one. tt)
     (λ at c is. none_dials (Controller at) _ (controller_dials c what s.moment s.chances.left)) (λ at m is. others_do (Member at) _ tt) (λ at c is. others_do (Client at) _ tt) end
 
--- ---- it stays so
+-- ---- a world that is alone stays alone
 
 both_behind : (given rest : Given) → DialsAreOthers given → DialsAreOthers rest → DialsAreOthers (given ++ rest)
 both_behind [] rest one other = other

@@ -48,7 +48,7 @@ note_alone (Some (Controller at)) w piece s after b = note_controller_alone (sli
 note_alone (Some (Member at)) w piece s after b = note_member (slice_get s.ends.members at) at w piece s after b
 note_alone (Some (Client at)) w piece s after b = note_client (slice_get s.ends.clients at) at w piece s b
 
--- ---- it is so where nobody is asked
+-- ---- a controller where nobody is asked
 
 pub none_asked : (t : Trusting) → t ≡ no_trusting → NoneIsAsked t
 none_asked t is = subst NoneIsAsked (sym is) (record { nobody = tt; none = refl; idle = refl; unsealing = refl })
@@ -96,7 +96,7 @@ module _ (at : ℕ) (c : ControllerState) (w : Delivery) (piece : List ℕ) (s a
       with_sent w.at (heard_marks on at c w piece s after b.forwards (drop (length s.bag) after.bag))
       (with_clash clash (with_forwards forwards (note_calls (answers_of at c w piece s) w s after b)))
 
-  -- so it is noted by what it answers
+  -- a controller that asks nobody is noted by what it answers
   pub quiet_noted : note_every (Some c) at w piece s after b ≡ note_answers (answers_of at c w piece s) w s after b
   quiet_noted =
       ap (λ (on : Bool). written on (any_turn_clash (asking_notes c w piece s) (unit_in w.source) b.sent) (forwards_of at c w piece s)) (ap (λ (how : Dialling). is_on w.link how) none.idle)
@@ -105,7 +105,7 @@ module _ (at : ℕ) (c : ControllerState) (w : Delivery) (piece : List ℕ) (s a
       ∙ ap (λ (clash : Bool). record (note_answers (answers_of at c w piece s) w s after b) { clash = clash })
       (or_none (note_calls (answers_of at c w piece s) w s after b).clash)
 
--- as it answers where it can ask nobody
+-- a controller that can ask nobody is noted as it answers alone
 pub state_noted : (at : ℕ) (c : ControllerState) (w : Delivery) (piece : List ℕ) (s after : State) (b : Book) → c.trusting ≡ no_trusting →
     note_every (Some c) at w piece s after b ≡ note_answers (alone_answers at c w piece s) w s after b
 state_noted at c w piece s after b nobody =

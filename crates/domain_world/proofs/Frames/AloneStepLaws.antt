@@ -90,7 +90,7 @@ pub fresh_by : (P : ControllerState → Type 0) (table : AccountTable) (name : L
 fresh_by P table name plain trusts false = plain
 fresh_by P table name plain trusts true = trusts
 
--- so it is where nobody is asked
+-- a controller is made as one that asks nobody, where nobody is asked
 fresh_alone : (hands_on : Bool) (table : AccountTable) (name : List ℕ) → TrustsNobody hands_on table → fresh_controller hands_on false table name ≡ first_state table name
 fresh_alone false table name nobody = refl
 fresh_alone true table name nobody = steps_alone.without_trusts table name nobody

@@ -55,7 +55,7 @@ pub record IsOfUnit {X : Type 0} (P : UnitFact X) (x : X) (bag : List BagUnit) (
   pub there : slice_get bag number ≡ Some unit
   pub holds : P x number unit mark
 
--- it holds of each unit that has a mark yet
+-- `P` holds of each unit that has a mark yet
 abbrev pub OfEachUnit : {X : Type 0} → UnitFact X → X → List BagUnit → List Sent → Type 0
 OfEachUnit P x bag sent = (number : ℕ) (one : Sent) → slice_get sent number ≡ Some one → IsOfUnit P x bag number one.mark
 
@@ -118,7 +118,7 @@ pub record MarksStay {X : Type 0} (part : Book → X) (Side : X → Fact) (P : U
       slice_get units place ≡ Some unit → slice_get (marks_of w.link false units (member_marks at m w piece s)) place ≡ Some mark →
       P (part (note_member (Some m) at w piece s after b)) (length s.bag + place) unit mark
 
--- the same by the units that the step adds to the bag, whatever end sends them
+-- marks by the units that the step adds to the bag, whatever end sends them
 pub record StepsMark {X : Type 0} (part : Book → X) (Side : X → Fact) (P : UnitFact X) : Type 0 where
   pub plain : (x : X) (number : ℕ) (unit : BagUnit) → P x number unit Plain
   pub settles : (x : X) (number : ℕ) (unit : BagUnit) (mark : Mark) → P x number unit mark → P x number (settled unit) mark
@@ -138,7 +138,7 @@ pub record StepsMark {X : Type 0} (part : Book → X) (Side : X → Fact) (P : U
       slice_get units place ≡ Some unit → slice_get (marks_of w.link false units (member_marks at m w piece s)) place ≡ Some mark →
       P (part (note_member (Some m) at w piece s after b)) (length s.bag + place) unit mark
 
--- it holds of each unit, and each unit has its mark
+-- `P` holds of each unit, and each unit has its mark
 pub record IsMarked {X : Type 0} (P : UnitFact X) (x : X) (bag : List BagUnit) (sent : List Sent) : Type 0 where
   pub each : OfEachUnit P x bag sent
   pub all : length sent ≡ length bag
@@ -162,7 +162,7 @@ abbrev pub AllFor : Option Delivery → List Route → List BagUnit → List Sen
 AllFor None links bag sent = Unit {0}
 AllFor (Some w) links bag sent = (end : EndId) → IsAtSide links w.link w.back end → IsServer end → length sent ≡ length bag
 
--- and no call is handed on
+-- `P` holds of each unit that has a mark, and no call is handed on
 pub record MarksAt {X : Type 0} (P : UnitFact X) (on : Option Delivery) (to : Option State) (links : List Route) (bag : List BagUnit) (x : X) (sent : List Sent) (forwards : List Forward) : Type 0 where
   pub each : OfEachUnit P x (bag_at to bag) sent
   pub all : AllFor on links (bag_at to bag) sent
@@ -204,7 +204,7 @@ marked_by P x now s after sent marks at units is grows as_many fresh before =
     subst (λ (bag : List BagUnit). IsMarked P now bag (sent ++ map (sent_at at) (marks (drop (length s.bag) after)))) (sym is)
     (subst (λ (more : List BagUnit). IsMarked P now (s.bag ++ units) (sent ++ map (sent_at at) (marks more))) (sym new) both)
 
--- those on a link in that direction, in order
+-- the units on a link in one direction are marked, in order
 pub marked_more : {X : Type 0} (P : UnitFact X) (x now : X) (s : State) (after : List BagUnit) (sent : List Sent) (link : ℕ) (back : Bool) (marks : List Mark) (at : ℕ) (units : List BagUnit) → after ≡ s.bag ++ units →
     ((number : ℕ) (unit : BagUnit) (one : Sent) → slice_get s.bag number ≡ Some unit → slice_get sent number ≡ Some one → P x number unit one.mark → P now number unit one.mark) →
     ((place : ℕ) (unit : BagUnit) (mark : Mark) → slice_get units place ≡ Some unit → slice_get (marks_of link back units marks) place ≡ Some mark →
@@ -271,7 +271,7 @@ pub plain_beside : (forwards : List Forward) (after : State) (unit : BagUnit) �
 plain_beside forwards after unit none = ap (λ (all : List Forward). beside_mark all after unit) none
 
 module _ {X : Type 0} (part : Book → X) (Side : X → Fact) (P : UnitFact X) (written : StaysWritten part Side) (stays : StepsMark part Side P) where
-  -- it goes on holding where that is written down
+  -- `P` goes on holding as the book is written on
   abbrev GrowsTo : List BagUnit → Book → Book → Type 0
   GrowsTo bag b now = (number : ℕ) (unit : BagUnit) (one : Sent) → slice_get bag number ≡ Some unit → slice_get b.sent number ≡ Some one → P (part b) number unit one.mark → P (part now) number unit one.mark
 

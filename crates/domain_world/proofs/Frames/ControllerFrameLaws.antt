@@ -42,11 +42,11 @@ pub record KeepsControllers {X : Type 0} (part : Book → X) (Fits : X → Contr
   -- a controller takes a step at which no bytes come
   pub hears : (x : X) (c : ControllerState) (at : ℕ) (what : Event) (now : ℕ) (controllers : List ControllerState) (chances : Drawing) → IsNoBytes what → slice_get controllers at ≡ Some c →
       Fits x controllers chances → ControllerStepped (Fits x) c at what now controllers chances
-  -- it hears bytes
+  -- a controller hears bytes
   pub comes : (c : ControllerState) (at : ℕ) (w : Delivery) (piece : List ℕ) (s after : State) (b : Book) → slice_get s.ends.controllers at ≡ Some c →
       Fits (part b) s.ends.controllers s.chances →
       ControllerStepped (Fits (part (note_controller (Some c) at w piece s after b))) c at (event.Bytes w.link piece) s.moment s.ends.controllers s.chances
-  -- it is made anew
+  -- a controller is made anew
   pub anew : (x : X) (c : ControllerState) (at : ℕ) (controllers : List ControllerState) (chances : Drawing) → slice_get controllers at ≡ Some c → Fits x controllers chances →
       Fits x (slice_set controllers at (first_state c.table c.name)) chances
 
@@ -62,7 +62,7 @@ module _ {X : Type 0} (part : Book → X) (Fits : X → ControllersFact) (keeps 
       (λ at c is draws. keeps.hears x c at what now ends.controllers chances none is fits) (λ at m is draws. keeps.draws x ends.controllers chances _ draws fits)
       (λ at c is draws. keeps.draws x ends.controllers chances _ draws fits) end (end_draws end what now ends chances)
 
-  -- another part is the same, and others draw
+  -- what holds of controllers is kept where another part is the same, and others draw
   others_keep : (x now : X) (controllers : List ControllerState) (chances later : Drawing) → now ≡ x → DrawsOn chances later → Fits x controllers chances → Fits now controllers later
   others_keep x now controllers chances later same draws fits =
       subst (λ (one : X). Fits one controllers later) (sym same) (keeps.draws x controllers chances later draws fits)

@@ -43,9 +43,10 @@ pub record Ends : Type 0 where
 abbrev pub ends_in : State → Ends
 ends_in s = record { client_plans = s.client_plans; ends = s.ends; chances = s.chances; links = s.links }
 
--- after so many moves, where that comes in this one, if bytes come: of the ends, what ends gave in this move, the book
+-- a fact after `moves` moves, and of where bytes come from in this one, if they do: of the ends, what ends gave in this
+-- move, and the book
 abbrev pub EndFact : Type 1
-EndFact = ℕ → Option Delivery → Ends → Given → Book → Type 0
+EndFact = (moves : ℕ) → Option Delivery → Ends → Given → Book → Type 0
 
 -- an end has heard something
 abbrev pub HasHeard : EndFact → ℕ → Option Delivery → EndId → AfterHearing → Given → Book → Type 0

@@ -53,7 +53,7 @@ module _ (P : EndId → EndStep → Book → Type 0) (w : Delivery) (piece : Lis
   noted_by (Member at) = member_noted (slice_get s.ends.members at) at refl
   noted_by (Client at) = client_noted (slice_get s.ends.clients at) at refl
 
--- the same of the book alone
+-- a fact of the book alone, by the end that hears
 pub book_by : (P : EndId → Book → Type 0) (w : Delivery) (piece : List ℕ) (s after : State) (b : Book) → ((end : EndId) → P end b) →
     ((at : ℕ) (c : ControllerState) → slice_get s.ends.controllers at ≡ Some c → P (Controller at) (note_controller (Some c) at w piece s after b)) →
     ((at : ℕ) (m : MemberState) → slice_get s.ends.members at ≡ Some m → P (Member at) (note_member (Some m) at w piece s after b)) →
@@ -64,7 +64,7 @@ book_by P w piece s after b none controllers members clients = noted_by (λ (end
 abbrev pub stepped : EndId → EndStep → State → State
 stepped end step s = (done end (heard_by step s)).state
 
--- the same with the state once the end acted
+-- a fact of the state once the end acted, and of the book
 pub acted_by : (P : EndId → EndStep → State → Book → Type 0) (w : Delivery) (piece : List ℕ) (s : State) (b : Book) →
     ((end : EndId) → P end (no_step s.ends s.chances) (stepped end (no_step s.ends s.chances) s) b) →
     ((at : ℕ) (c : ControllerState) → slice_get s.ends.controllers at ≡ Some c →
@@ -96,7 +96,7 @@ acted_by P w piece s b none controllers members clients end =
 abbrev pub ControllersLeave : {X : Type 0} → (Book → X) → Type 0
 ControllersLeave part = (answers : List Answered) (w : Delivery) (s after : State) (b : Book) → part (note_answers answers w s after b) ≡ part b
 
--- whether they ask others or not
+-- what every controller writes down leaves the part, whether it asks others or not
 abbrev pub EveryLeaves : {X : Type 0} → (Book → X) → Type 0
 EveryLeaves part = (c : ControllerState) (at : ℕ) (w : Delivery) (piece : List ℕ) (s after : State) (b : Book) → part (note_every (Some c) at w piece s after b) ≡ part b
 
@@ -130,7 +130,7 @@ judged_so = record {
   clients = λ c at w piece s b. refl;
 }
 
--- and so is what was accepted
+-- the channels that were accepted are a part of the book
 abbrev pub acceptings_of : Book → List ChannelAccepted
 acceptings_of b = b.accepted
 

@@ -40,10 +40,10 @@ use Rattle.domain_world.proofs.Moves.OpenMadeLaws.{IsMore, IsOnSide, MoreOf, goe
 
 -- ---- what is to be shown
 
--- It goes on holding where a unit is delivered or lost, and where more is written down. It holds of each new unit, by
--- the mark that this gets, where a controller or a member hears bytes; all units had their marks before, and the new
--- ones are behind them. It holds too of each unit that gets its mark once the move is over. It may rest on a fact that
--- is carried through the moves besides.
+-- `P` goes on holding of a unit and its mark where the unit is delivered or lost, and where more is written down. `P`
+-- holds of each new unit, by the mark that the unit gets, where a controller or a member hears bytes; all units had
+-- their marks before, and the new ones are behind them. `P` holds too of each unit that gets its mark once the move is
+-- over. `P` may rest on a fact that is carried through the moves besides (`Side`).
 pub record EveryMarks {X : Type 0} (part : Book → X) (P : UnitFact X) (Side : MoveFact) : Type 0 where
   pub settles : (x : X) (number : ℕ) (unit : BagUnit) (mark : Mark) → P x number unit mark → P x number (settled unit) mark
   pub grows : (n : ℕ) (end : EndId) (w : Delivery) (piece : List ℕ) (s after : State) (given : Given) (b : Book) (number : ℕ) (unit : BagUnit) (mark : Mark) → Side n (coming w) s given b →
@@ -108,8 +108,8 @@ one_end one other links link back first second =
     let both : Some one ≡ Some other = sym first.side ∙ ap (λ (r : Route). side_of back r) route ∙ second.side in cc
 
 module _ {X : Type 0} (part : Book → X) (P : UnitFact X) (Side : MoveFact) (stays : EveryMarks part P Side) where
-  -- it goes on holding where that is written down
-  abbrev GrowsTo : Book → Book → Type 0
+  -- of each unit and mark of which `P` holds by the book `b`, it holds by the book `now`
+  abbrev GrowsTo : (b now : Book) → Type 0
   GrowsTo b now = (number : ℕ) (unit : BagUnit) (mark : Mark) → P (part b) number unit mark → P (part now) number unit mark
 
   abbrev EndMarked : EndId → State → Book → Type 0
@@ -152,7 +152,7 @@ module _ {X : Type 0} (part : Book → X) (P : UnitFact X) (Side : MoveFact) (st
         (λ server. absurd (let never : true ≡ false = server in cc)),
       )) end all (λ number unit mark holds. stays.grows n end w piece s (hear_and_act end (event.Bytes w.link piece) s).state given b number unit mark side holds)
 
-  -- a unit more
+  -- `EachHasMark` stays where a unit more is sent, and where a link is closed
   sends_on : (x : X) (sent : List Sent) (on : Option Delivery) (to : Option State) → AtWork on to → StaysOnLinks (λ links map bag. EachHasMark P on to links bag x sent)
   sends_on x sent None None work = record {
     sends = λ unit links map bag is marks. record {
@@ -205,7 +205,7 @@ module _ {X : Type 0} (part : Book → X) (P : UnitFact X) (Side : MoveFact) (st
 pub first_marks : {X : Type 0} (P : UnitFact X) (x : X) (on : Option Delivery) → EachHasMark P on None [] [] x []
 first_marks P x on = record { each = λ number one there. absurd (got_nothing number one there); all = all_on on [] [] [] refl }
 
--- in every run, where it rests on nothing else
+-- `P` holds of each unit and its mark after every run in which nothing seals, where it rests on nothing else
 pub every_marked : {X : Type 0} (part : Book → X) (P : UnitFact X) → EveryMarks part P NoSide → (plan : Plan) (moves : List Move) → NothingSeals plan →
     OfEachUnit P (part (past plan moves).book) (past plan moves).world.state.bag (past plan moves).book.sent
 every_marked part P stays plan moves nothing =

@@ -139,7 +139,7 @@ module _ (P : EndId → EndStep → Book → Type 0) (w : Delivery) (piece : Lis
   every_noted (Member at) = member_noted (slice_get s.ends.members at) at refl
   every_noted (Client at) = client_noted (slice_get s.ends.clients at) at refl
 
--- the same of the book alone
+-- a fact of the book alone, by the end that hears
 pub every_book : (P : EndId → Book → Type 0) (w : Delivery) (piece : List ℕ) (s after : State) (b : Book) → ((end : EndId) → P end b) →
     ((at : ℕ) (c : ControllerState) → slice_get s.ends.controllers at ≡ Some c → P (Controller at) (note_controller (Some c) at w piece s after b)) →
     ((at : ℕ) (m : MemberState) → slice_get s.ends.members at ≡ Some m → P (Member at) (note_member (Some m) at w piece s after b)) →
@@ -164,11 +164,11 @@ bytes_turns end w piece s after b =
     every_book (λ (one : EndId) (now : Book). now.turns ≡ b.turns) w piece s after b (λ one. refl) (λ at c is. refl)
     (λ at m is. turns_leave m at w piece s after b) (λ at c is. refl) end
 
--- so a state is once an end took that step
-abbrev pub stepped : EndId → EndStep → State → State
+-- the state once the end took that step
+abbrev pub stepped : (end : EndId) (step : EndStep) (s : State) → State
 stepped end step s = (done end (heard_by step s)).state
 
--- the same with the state once the end acted
+-- a fact of the state once the end acted, and of the book
 pub every_acted : (P : EndId → EndStep → State → Book → Type 0) (w : Delivery) (piece : List ℕ) (s : State) (b : Book) →
     ((end : EndId) → P end (no_step s.ends s.chances) (stepped end (no_step s.ends s.chances) s) b) →
     ((at : ℕ) (c : ControllerState) → slice_get s.ends.controllers at ≡ Some c →

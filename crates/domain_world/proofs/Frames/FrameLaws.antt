@@ -166,7 +166,7 @@ module _ {X : Type 0} (part : Book → X) (Fits : X → PlannedFact) (written : 
 
 -- where the plans don't matter
 module _ {X : Type 0} (part : Book → X) (Fits : X → Fact) (written : StaysWritten part Fits) where
-  -- as a fact of a move
+  -- a fact of the ends and a part of the book, as a fact of a move
   abbrev pub OfSide : MoveFact
   OfSide n p s given b = HoldsIn (Fits (part b)) s
 

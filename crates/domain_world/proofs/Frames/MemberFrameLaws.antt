@@ -64,7 +64,7 @@ pub record KeepsMembers {X : Type 0} (part : Book → X) (Fits : X → MembersFa
   -- a member is made anew
   pub anew : (x : X) (plan : MemberPlan) (at : ℕ) (members : List MemberState) (chances : Drawing) (links : List Route) → Fits x members chances links →
       Fits x (slice_set members at (fresh_member plan)) chances links
-  -- it begins to change its secret
+  -- a member begins to change its secret
   pub changes : (x : X) (secret : List ℕ) (running : Running) (at : ℕ) (members : List MemberState) (chances : Drawing) (links : List Route) →
       slice_get members at ≡ Some (record { running = Some running }) → running.logons.plan.secrets.next ≡ None → Fits x members chances links →
       Fits x (slice_set members at (member_begun secret running)) chances links
@@ -91,7 +91,7 @@ module _ {X : Type 0} (part : Book → X) (Fits : X → MembersFact) (keeps : Ke
       (λ at c is accepts draws. keeps.draws x ends.members chances _ (links ++ route ∷ []) draws more) (acceptor_of route) refl
       (end_draws (acceptor_of route) (event.Opened (length links)) now ends chances)
 
-  -- another part is the same, and others draw
+  -- what holds of members is kept where another part is the same, and others draw
   others_keep : (x now : X) (members : List MemberState) (chances later : Drawing) (links : List Route) → now ≡ x → DrawsOn chances later → Fits x members chances links →
       Fits now members later links
   others_keep x now members chances later links same draws fits =

@@ -65,7 +65,7 @@ none_dialled (dial ∷ dials) none = absurd (let x = none in cc)
 -- ---- a part of a move
 
 module _ (Known : Type 0) (Holds : MoveFact) (keeps : KeepsCalmMovesBy any Known NoSide Holds) where
-  -- it holds after it, and no more steps were taken than are allowed; a link that is open allows two
+  -- `Holds` is so after an action, and no more steps were taken than are allowed; a link that is open allows two
   record After (p : Progress) (most : ℕ) (acted : Acted) (given : Given) (b : Book) : Type 0 where
     steps : ℕ
     holds : Holds steps p acted.state (given ++ acted.given) b
@@ -311,7 +311,7 @@ module _ (Known : Type 0) (Holds : MoveFact) (keeps : KeepsCalmMovesBy any Known
       pieces_since w links old pieces (piece_comes w.back w.link piece s).state
       (heard_if_stays (Since links old) (since_sent links old) (hearer_of w.back (lookup same_number w.link s.open_links)) (event.Bytes w.link piece) s since)
 
-  -- it holds after a move, of which what is given isn't written down; few steps were taken, where no unit is long
+  -- `Holds` is so after a move, of which what is given isn't written down; few steps were taken, where no unit is long
   record Moved (n at : ℕ) (s : State) (acted : Acted) (b : Book) : Type 0 where
     steps : ℕ
     on : Option Delivery
@@ -467,7 +467,7 @@ module _ (Known : Type 0) (Holds : MoveFact) (keeps : KeepsMovesBy any Known NoS
       (λ next. keeps.over moved.steps w.moves moved.on next (act w.state what).state (act w.state what).given (note_coming what w.moves w.state b) tt moved.holds) in
       record { steps = later.steps; holds = later.holds; few = λ known. omega (arith, later.few known, moved.few known) }
 
--- the same where what holds says of the bag that its units are short, and have bytes
+-- moves are carried where what holds says of the bag that its units are short, and have bytes
 module _ (Holds : MoveFact) (keeps : KeepsMovesBy any (Unit {0}) NoSide Holds)
     (says : (n at : ℕ) (s : State) (b : Book) → Holds n (started at None) s [] b → IsBytesBag s.bag) where
   carry_part : (moves : List Move) (n : ℕ) (w : World) (b : Book) → AllByRecursion HandsBytes moves → IsPlaced w.state → HoldsFor (Unit {0}) Holds (Calm (Unit {0}) Holds keeps) n w.moves w.state b →
@@ -540,7 +540,7 @@ any_keeps = record {
   over = λ n at on next s given b none holds. tt;
 }
 
--- they have their places after each move
+-- units have their places after each move
 pub placed_next : (what : Move) (w : World) (b : Book) → IsPlaced w.state → IsPlaced (act w.state what).state
 placed_next what w b placed =
     let moved : Moved ⊥ AnyMove (Calm ⊥ AnyMove any_keeps) 0 w.moves w.state (act w.state what) (note_coming what w.moves w.state b) =
@@ -548,7 +548,7 @@ placed_next what w b placed =
 
 -- ---- a move at which no end is made anew
 
--- it holds on through it, though it isn't known to where one is
+-- `Holds` is kept through a move at which no end is made anew, though it isn't known to be where one is
 pub move_keeps : (Holds : MoveFact) → KeepsCalmMovesBy any ⊥ NoSide Holds → (what : Move) (w : World) (b : Book) → restart_of what w.state ≡ None → IsPlaced w.state →
     ((on : Option Delivery) → Holds 0 (started w.moves on) w.state [] b) →
     (n : ℕ) × ((next : Option Delivery) → Holds n (started (happens w what).moves next) (happens w what).state [] (note w what b))

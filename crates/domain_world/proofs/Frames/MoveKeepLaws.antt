@@ -79,9 +79,9 @@ pub record Progress : Type 0 where
   -- what ends gave and isn't done yet
   pub rest : Given
 
--- after so many steps of ends: of what is under way, the state, what ends gave in this move, and the book
+-- a fact after `steps` steps of ends: of what is under way, the state, what ends gave in this move, and the book
 abbrev pub MoveFact : Type 1
-MoveFact = ℕ → Progress → State → Given → Book → Type 0
+MoveFact = (steps : ℕ) → Progress → State → Given → Book → Type 0
 
 -- nothing is left to do
 abbrev pub started : ℕ → Option Delivery → Progress

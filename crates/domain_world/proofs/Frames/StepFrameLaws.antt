@@ -39,9 +39,9 @@ use Rattle.wire_base.proofs.AllLaws.{all_both}
 
 -- ---- what is to hold
 
--- after so many steps of ends: the state, what ends gave in this move, and the book
+-- a fact after `steps` steps of ends: of the state, what ends gave in this move, and the book
 abbrev pub RunFact : Type 1
-RunFact = ℕ → State → Given → Book → Type 0
+RunFact = (steps : ℕ) → State → Given → Book → Type 0
 
 -- what an action of that end may be, by the links of the world
 abbrev pub ActionFact : Type 1

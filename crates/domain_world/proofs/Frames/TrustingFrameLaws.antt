@@ -45,11 +45,11 @@ pub record KeepsTrusting {X : Type 0} (part : Book → X) (Fits : X → Controll
   -- a controller takes a step at which no bytes come
   pub hears : (x : X) (c : ControllerState) (at : ℕ) (what : Event) (now : ℕ) (controllers : List ControllerState) (chances : Drawing) → IsNoBytes what → slice_get controllers at ≡ Some c →
       Fits x controllers chances → TrustingStepped (Fits x) c at what now controllers chances
-  -- it hears bytes
+  -- a controller hears bytes
   pub comes : (c : ControllerState) (at : ℕ) (w : Delivery) (piece : List ℕ) (s after : State) (b : Book) → slice_get s.ends.controllers at ≡ Some c →
       Fits (part b) s.ends.controllers s.chances →
       TrustingStepped (Fits (part (note_controller (Some c) at w piece s after b))) c at (event.Bytes w.link piece) s.moment s.ends.controllers s.chances
-  -- it is made anew
+  -- a controller is made anew
   pub anew : (x : X) (c : ControllerState) (at : ℕ) (hands_on : Bool) (controllers : List ControllerState) (chances : Drawing) → slice_get controllers at ≡ Some c → Fits x controllers chances →
       Fits x (slice_set controllers at (fresh_controller hands_on false c.table c.name)) chances
 
@@ -64,7 +64,7 @@ module _ {X : Type 0} (part : Book → X) (Fits : X → ControllersFact) (keeps 
       (λ at c is draws. keeps.hears x c at what s.moment s.ends.controllers s.chances none is fits) (λ at m is draws. keeps.draws x s.ends.controllers s.chances _ draws fits)
       (λ at c is draws. keeps.draws x s.ends.controllers s.chances _ draws fits) end (every_draws end what s.moment s.ends s.chances)
 
-  -- another part is the same, and others draw
+  -- what holds of controllers is kept where another part is the same, and others draw
   others_keep : (x now : X) (controllers : List ControllerState) (chances later : Drawing) → now ≡ x → DrawsOn chances later → Fits x controllers chances → Fits now controllers later
   others_keep x now controllers chances later same draws fits =
       subst (λ (one : X). Fits one controllers later) (sym same) (keeps.draws x controllers chances later draws fits)

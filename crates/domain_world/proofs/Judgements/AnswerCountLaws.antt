@@ -1,5 +1,5 @@
--- In every run in which nothing seals a controller tells how calls came out that it handed on, each once at most. It
--- serves `Proved.alone`.
+-- In every run in which nothing seals each controller handed on as many calls at least as came out or wait there yet.
+-- It serves `Proved.alone`.
 use Rattle.std.proofs.Common.{◌≡◌, ◌≤◌, ℕ, ◌+◌, ◌==◌, Bool, true, false, List, [], ◌∷◌, ◌++◌, length, Option, Some, None, Ok, Err, slice_get, slice_set, refl, sym, ap, ◌∙◌, subst, arith}
 use Rattle.std.proofs.lemmas.Bool.{false_from_ne_true}
 use Rattle.std.proofs.lemmas.Bool.Decides.{Decides-eqb}
@@ -47,7 +47,8 @@ use Rattle.domain_world.proofs.Judgements.ToldLaws.{judgements_append, others_qu
 abbrev waiting_in : ControllerState → ℕ
 waiting_in c = length c.trusting.queues.forwarded
 
--- what waits then, and what was told to come out, is no more than what waited and what was told to be handed on
+-- the calls that wait after a step, and those that it told to come out, are no more than those that waited before, and
+-- those that it told to be handed on
 abbrev Counts : ControllerState → Stepped ControllerState → Type 0
 Counts c stepped = waiting_in stepped.state + told_answers (actions_by stepped.answer) ≤ waiting_in c + told_forwards (actions_by stepped.answer)
 
@@ -66,7 +67,7 @@ on_counts (Some running) c what now left counted = part_counts (trust_step_part 
 step_counts : (c : ControllerState) (what : Event) (now : ℕ) (left : List (List ℕ)) → Counts c (trust_step_of c what now left)
 step_counts c what now left = on_counts c.running c what now left (each_is_answered.step c what now left)
 
--- ---- what is told of it
+-- ---- what is told of calls
 
 itself : (k : ℕ) → (k == k) ≡ true
 itself k = (Decides-eqb k k).1 refl
@@ -93,7 +94,7 @@ own_forwards k at (action.Judged how ∷ actions) =
     let rest : ℕ = told_count handed_count k (judgements_in (given_by (Controller k) actions) at) in
     ap (λ (its : Bool). counts_by its (handed_count how) + rest) (itself k) ∙ ap (λ (n : ℕ). handed_count how + n) (own_forwards k at actions)
 
--- nothing by another controller
+-- what another controller tells counts nothing
 none_of_other : (counts : Judged → ℕ) (k other at : ℕ) → (other == k) ≡ false → (actions : List Action) → told_count counts k (judgements_in (given_by (Controller other) actions) at) ≡ 0
 none_of_other counts k other at not [] = refl
 none_of_other counts k other at not (action.Keep bytes ∷ actions) = none_of_other counts k other at not actions
@@ -116,8 +117,9 @@ count_onto counts k (what ∷ new) old = omega (arith, count_onto counts k new (
 
 -- ---- through the moves
 
--- at each controller, of what was told in the move so far and before
-abbrev AreCountedSo : ℕ → Given → List JudgementTold → List ControllerState → Type 0
+-- at each controller as many calls at least were told to be handed on, in the move so far and before, as were told to
+-- come out or wait
+abbrev AreCountedSo : (at : ℕ) (given : Given) (told : List JudgementTold) (controllers : List ControllerState) → Type 0
 AreCountedSo at given told controllers =
     (k : ℕ) →
     told_count answers_judged k (judgements_in given at) + told_count answers_judged k told + waiting_count (slice_get controllers k)
@@ -129,8 +131,9 @@ count_given counts k at given more =
     ap (λ (all : List JudgementTold). told_count counts k all) (judgements_append given more at)
     ∙ count_append counts k (judgements_in given at) (judgements_in more at)
 
--- more is given, and controllers are others then
-abbrev CountsMore : ℕ → Given → List ControllerState → List ControllerState → ℕ → Type 0
+-- the calls of controller `k` that come out in what is given more, and those that wait then, are no more than those
+-- that are handed on in it, and those that waited
+abbrev CountsMore : (at : ℕ) (more : Given) (old new : List ControllerState) (k : ℕ) → Type 0
 CountsMore at more old new k =
     told_count answers_judged k (judgements_in more at) + waiting_count (slice_get new k)
     ≤ told_count handed_count k (judgements_in more at) + waiting_count (slice_get old k)
@@ -140,7 +143,7 @@ more_counted : (at : ℕ) (given more : Given) (told : List JudgementTold) (old 
 more_counted at given more told old new counted each k =
     omega (arith, count_given answers_judged k at given more, count_given handed_count k at given more, counted k, each k)
 
--- nothing is told, and controllers stay
+-- `CountsMore` holds where nothing is told, and controllers stay
 none_counted : (at : ℕ) (more : Given) (controllers : List ControllerState) → judgements_in more at ≡ [] → (k : ℕ) → CountsMore at more controllers controllers k
 none_counted at more controllers none k =
     omega (
@@ -157,7 +160,7 @@ other_number a k not = false_from_ne_true (a == k) (λ is.
     let here : (k == a) ≡ true = (Decides-eqb k a).1 (sym ((Decides-eqb a k).0 is)) in
     let never : false ≡ true = sym not ∙ here in cc)
 
--- one controller took a step
+-- `CountsMore` holds where one controller took a step
 stepped_at : (same : Bool) (at : ℕ) (controllers : List ControllerState) (a : ℕ) (c : ControllerState) (stepped : Stepped ControllerState) (k : ℕ) → (k == a) ≡ same →
     slice_get controllers a ≡ Some c → Counts c stepped →
     CountsMore at (given_by (Controller a) (actions_by stepped.answer)) controllers (slice_set controllers a stepped.state) k
@@ -206,7 +209,7 @@ bytes_judgements end w piece s after b =
     asked_leave (OfMember k) w (turn_units m w.link piece s.moment s.chances.left) s after (note_messages k m w piece s b) (λ (book : Book). book.judgements)
     (λ note served unit number old. refl)) (λ k c is. refl) end
 
--- one that is made anew has none that wait
+-- at a controller that is made anew no call waits
 fresh_none : (hands_on : Bool) (c : ControllerState) → waiting_in (fresh_controller hands_on false c.table c.name) ≡ 0
 fresh_none hands_on c = fresh_by (λ (new : ControllerState). waiting_in new ≡ 0) c.table c.name refl refl hands_on
 
@@ -255,7 +258,7 @@ counted_keeps = record {
       );
 }
 
--- at first none waits
+-- no call is counted as waiting where no controller is found, or none waits at the one that is
 none_waits : (found : Option ControllerState) → ((c : ControllerState) → found ≡ Some c → waiting_in c ≡ 0) → waiting_count found ≡ 0
 none_waits None each = refl
 none_waits (Some c) each = each c refl
@@ -268,7 +271,7 @@ first_counted plan on k =
           (λ c is. each_fresh (λ (one : ControllerState). waiting_in one ≡ 0) (λ table name. refl) (λ table name. refl) plan.hands_on plan.tables plan.controllers k c is),
     )
 
--- in every run
+-- the counts hold after every run in which nothing seals
 pub tells_of_forwards : (plan : Plan) (moves : List Move) → NothingSeals plan → TellsOfForwards (past plan moves)
 tells_of_forwards plan moves nothing k =
     let counted : AreCountedSo (past plan moves).world.moves [] (past plan moves).book.judgements (past plan moves).world.state.ends.controllers =

@@ -160,7 +160,7 @@ module _ {X : Type 0} (ledger : Ledger X) (follows : FollowsCalls ledger) (w : W
 
 -- ---- a call that is judged
 
--- it passed, and is done; or it didn't, and nothing changes
+-- a call passed, and is done; or it didn't, and nothing changes
 pub done_or_refused : (w : Where) (line : Line) (c : JudgedCall) (d : Desk) →
     ((next : IsNext d.work.computers (computer_named c) (given_in c)) × (has_passed (its_judging w line c d).how ≡ true)
     × IsDoneAs (asked_of c) line (key_of_channel next.channel) (return_of (key_of_channel next.channel) next.channel.seed next.given.timestamp)

@@ -76,7 +76,7 @@ units_served name now link table units d talk left is =
 
 -- ---- a step of a controller
 
--- it has its accounts, but for their counts and hashes, and its name
+-- a controller has its accounts, but for their counts and hashes, and its name
 abbrev pub KeepsPlan : ControllerState → ControllerState → Type 0
 KeepsPlan c new = DifferInStates c.table new.table × (new.name ≡ c.name)
 
@@ -94,7 +94,7 @@ step_keeps c what now left = (counts_by_verdict.states c what now left, running_
 
 -- ---- what a controller is by its plan, and what it judges
 
--- these are the accounts, but for their counts and hashes, and the name of that controller of the plan
+-- accounts are, but for their counts and hashes, those of a controller of the plan, and a name is that controller's
 pub record IsPlanned (plan : Plan) (controller : ℕ) (table : AccountTable) (name : List ℕ) : Type 0 where
   pub planned : AccountTable
   pub is : slice_get plan.tables controller ≡ Some planned
@@ -110,7 +110,7 @@ planned_later plan controller table other name planned differ = record {
   name_is = planned.name_is;
 }
 
--- besides, it was judged by the accounts of the plan
+-- a call was judged by the accounts of the plan, and tells its status
 abbrev pub IsByPlan : Plan → Judging → Type 0
 IsByPlan plan j = IsPlanned plan j.controller j.table j.name × TellsItsStatus j
 

@@ -16,7 +16,7 @@ on_same : (found : Option ChannelIdentity) (one other : ChannelIdentity) → Sam
 on_same None one other same = refl
 on_same (Some found) one other same = found_same found one other same
 
--- it is that of the channel, whatever the case of its computer's name
+-- a channel's seed moved as far, whatever the case of its computer's name
 pub moved_same : (one other : ChannelIdentity) → SameChannel one other → (judgings : List Judging) → moved_on one judgings ≡ moved_on other judgings
 moved_same one other same [] = refl
 moved_same one other same (j ∷ judgings) =
@@ -44,7 +44,7 @@ moved_past channel j judgings none =
 
 -- ---- the channel that a call is checked on
 
--- it is that of the computer that the call names, in the state in which the call met it
+-- a channel is that of the computer that the call names, in the state in which the call met it
 pub record IsFound (controller : ℕ) (computer : Option (List ℕ)) (checks : Option SecureChannelState) (channel : ChannelIdentity) : Type 0 where
   pub name : List ℕ
   pub state : SecureChannelState

@@ -156,7 +156,7 @@ module _ (j : Judging) (channel : ChannelIdentity) (on : IsOn j channel) where
       ∙ ap₂ (λ (key client : List ℕ). add_to (cred_of key client) (moved_on (channel_of j.controller on.name on.state) older)) key_is on.same.client
       ∙ ap (λ (n : ℕ). add_to (cred_of (channel_key channel) channel.client) n) (moved_same (channel_of j.controller on.name on.state) channel on.same older)
 
-  -- its authenticator passes there where it is the next one
+  -- the authenticator of a call passes there where it is the next one
   next_passes : (seed : List ℕ) (given : Authenticator) → on.state.seed ≡ seed → given_in j.asked ≡ Some given → IsNextOn j.checks (given_in j.asked) → Passes (channel_key channel) seed given
   next_passes seed given is there next =
       let state : next.channel ≡ on.state = some_is next.channel on.state (sym next.stands ∙ on.stands) in

@@ -202,7 +202,7 @@ module _ (judgings : List Judging) (number : ℕ) (bytes : List ℕ) where
 abbrev OfUnit : UnitFact (List Judging)
 OfUnit judgings number unit mark = IsReplyOfOne judgings number unit.bytes mark
 
--- it rests on nothing else
+-- the marks of replies rest on nothing else
 abbrev NothingElse : List Judging → Fact
 NothingElse judgings ends chances links = Unit {0}
 

@@ -23,12 +23,12 @@ use Rattle.domain_world.proofs.Judgements.JudgedLaws.{HoldsIf}
 
 -- ---- the mark of an answer
 
--- it is that of the reply to the call, where this came in a unit of the bag and passed on a channel
+-- a mark is that of the reply to the call, where this came in a unit of the bag and passed on a channel
 abbrev IsReplyMark : Mark → Judging → Type 0
 IsReplyMark mark j = (n : ℕ) (channel : ChannelIdentity) → j.source ≡ InUnit n → passed_channel j ≡ Some channel → mark ≡ ReplyTo channel j.number n
 
--- a call that was judged has an answer with its mark, and came from there, after so many moves
-abbrev IsAnsweredBy : ℕ → Source → Bool → Mark → Judging → Type 0
+-- a call that was judged has an answer with its mark, and came from `source`, after `moves` moves
+abbrev IsAnsweredBy : (moves : ℕ) (source : Source) → Bool → Mark → Judging → Type 0
 IsAnsweredBy moves source sends mark j = (sends ≡ true) × (j.source ≡ source) × (j.at ≡ moves) × IsReplyMark mark j
 
 abbrev pub AnswersSo : ℕ → Source → Answered → Type 0

@@ -331,7 +331,7 @@ module _ (judgings : List Judging) (left : List (List ℕ)) (j : Judging) (compu
       (checks ∙ ap (λ (o : Option (List ℕ)). checked_on o computers) named ∙ stands))
       ∙ itself (channel_of j.controller name c)
 
-  -- its channel's seed moves where it passes
+  -- the seed of a call's channel moves where the call passes
   seed_moved : (passes : Bool) (name : List ℕ) (given : Authenticator) (c : SecureChannelState) → has_passed j.how ≡ passes → computer_named j.asked ≡ Some name → given_in j.asked ≡ Some given →
       lookup same_name name computers.channels ≡ Some c → IsMoved (j ∷ judgings) j.controller name (channel_by passes c given)
   seed_moved false name given c passed named there stands =

@@ -241,7 +241,7 @@ bytes_step controller c judgings w piece s numbers order kept =
 
 -- ---- a step at which no bytes come
 
--- what is kept of computers is so, where fewer challenges are left
+-- seeds are kept where what is kept of computers is the same and fewer challenges are left
 same_kept : (after before : Option Running) (judgings : List Judging) (rest left : List (List ℕ)) (controller : ℕ) → IsRest rest left → KeepsUnlessEnded after before →
     AreKeptIf judgings left controller before → AreKeptIf judgings rest controller after
 same_kept None before judgings rest left controller fewer same kept = tt
@@ -287,7 +287,7 @@ controller_put judgings now left rest controllers at new follow goes = record {
   ];
 }
 
--- another end drew challenges
+-- seeds follow where another end drew challenges
 pub drawn_follow : (judgings : List Judging) (left rest : List (List ℕ)) (controllers : List ControllerState) → IsRest rest left → SeedsFollow judgings left controllers →
     SeedsFollow judgings rest controllers
 drawn_follow judgings left rest controllers is follow = record {
@@ -304,7 +304,7 @@ bytes_follow c judgings controller w piece s numbers is follow =
     controller_put judgings _ s.chances.left _ s.ends.controllers controller (step_of c (event.Bytes w.link piece) s.moment s.chances.left).state follow
     (bytes_step controller c judgings w piece s numbers follow.order (follow.each controller c is))
 
--- it hears something else
+-- seeds follow where a controller hears something else than bytes
 pub quiet_follow : (c : ControllerState) (judgings : List Judging) (controller : ℕ) (what : Event) (now : ℕ) (controllers : List ControllerState) (left : List (List ℕ)) →
     slice_get controllers controller ≡ Some c → IsNoBytes what → SeedsFollow judgings left controllers →
     SeedsFollow judgings (step_of c what now left).left (slice_set controllers controller (step_of c what now left).state)

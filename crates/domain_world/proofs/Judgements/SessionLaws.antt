@@ -54,7 +54,7 @@ use Rattle.domain_world.proofs.Judgements.SessionStepLaws.{RunsWith}
 abbrev IsFew : List Session → Type 0
 IsFew sessions = length sessions ≤ session_limit
 
--- as many as may be, or fewer
+-- a count that is at most as many as may be, and isn't that many, is below
 below : (count most : ℕ) → count ≤ most → (count == most) ≡ false → count < most
 below count most few other = elim (leb_tells most count) [
   | inl full ↦ absurd (
@@ -223,7 +223,7 @@ if_interactive Fact (Logoff c) so = tt
 if_interactive Fact (NetworkLogoff c) so = tt
 if_interactive Fact (Set c) so = tt
 
--- it comes for no trusted domain
+-- an interactive logon comes for no trusted domain, so it tells its status
 told_so : (j : Judging) (c : InteractiveCall) → j.asked ≡ Interactive c → IsToldSo j → TellsItsStatus j
 told_so j c asks (inl told) = told
 told_so j c asks (inr elsewhere) =

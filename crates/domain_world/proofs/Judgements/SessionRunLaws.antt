@@ -183,7 +183,7 @@ module _ (starts : List ControllerRenewed) (w : Where) (early : Starts w.at star
 
 -- ---- all controllers
 
--- Of what was judged, and of each controller as it stands, after so many moves.
+-- What was judged, and each controller as it stands, after `at` moves.
 record Stand (starts : List ControllerRenewed) (at : ℕ) (judgings : List Judging) (controllers : List ControllerState) : Type 0 where
   judged : AreBySince starts judgings
   each : (k : ℕ) (c : ControllerState) → slice_get controllers k ≡ Some c → RunsWith (sessions_since k (last_start k starts) judgings) c.running
@@ -194,7 +194,7 @@ runs_same : (running : Option Running) (one other : List Session) → one ≡ ot
 runs_same None one other same runs = tt
 runs_same (Some running) one other same runs = runs ∙ same
 
--- what it keeps of computers is so
+-- sessions are kept where what is kept of computers is the same
 runs_kept : (new old : Option Running) (sessions : List Session) → KeepsUnlessEnded new old → RunsWith sessions old → RunsWith sessions new
 runs_kept None old sessions same runs = tt
 runs_kept (Some after) None sessions same runs = absurd same
@@ -303,7 +303,7 @@ stands_on starts = record {
 -- ---- a controller is made anew
 
 module _ (at : ℕ) (starts : List ControllerRenewed) (judgings : List Judging) where
-  -- it judged nothing since
+  -- a controller that was made anew judged nothing since
   none_since : (k : ℕ) (js : List Judging) → AreMade at js → sessions_since k (at + 1) js ≡ []
   none_since k [] made = refl
   none_since k (j ∷ js) made =
@@ -323,14 +323,14 @@ module _ (at : ℕ) (starts : List ControllerRenewed) (judgings : List Judging) 
   abbrev renewal : ℕ → ControllerRenewed
   renewal k = record { moves = at + 1; controller = k }
 
-  -- another one keeps what it kept
+  -- another controller keeps the sessions that it kept
   other_kept : (k n : ℕ) (running : Option Running) → (k == n) ≡ false → RunsWith (sessions_since n (last_start n starts) judgings) running →
       RunsWith (sessions_since n (last_start n (renewal k ∷ starts)) judgings) running
   other_kept k n running differs runs =
       runs_same running (sessions_since n (last_start n starts) judgings) (sessions_since n (last_start n (renewal k ∷ starts)) judgings)
       (ap (λ (start : ℕ). sessions_since n start judgings) (sym (start_other (k == n) (at + 1) (last_start n starts) differs))) runs
 
-  -- and it keeps none itself
+  -- the controller that is made anew keeps no session
   own_fresh : (k : ℕ) → AreMade at judgings → [] ≡ sessions_since k (last_start k (renewal k ∷ starts)) judgings
   own_fresh k made =
       sym (ap (λ (start : ℕ). sessions_since k start judgings) (start_own (k == k) (at + 1) (last_start k starts) (eq-eqb k k refl)) ∙ none_since k judgings made)

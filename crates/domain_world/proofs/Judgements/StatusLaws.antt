@@ -65,7 +65,7 @@ checked : (c : JudgedCall) (d : TrustDesk) (next : IsNext d.work.work.computers 
 checked c d next channel stands =
     some_is next.channel channel (sym (ap (λ (name : Option (List ℕ)). checked_on name d.work.work.computers) next.named ∙ next.stands) ∙ stands)
 
--- what is told first, behind the actions before it
+-- a judgement that is told first behind the earlier actions is the one that is read off them
 told_first : (old all : List Action) (how : Judged) (new : List Action) → all ≡ old ++ action.Judged how ∷ new → judged_in (drop (length old) all) ≡ Some how
 told_first old all how new is = ap (λ (actions : List Action). judged_in (drop (length old) actions)) is ∙ ap judged_in (dropped old (action.Judged how ∷ new))
 
@@ -74,7 +74,7 @@ there_is [] at below = absurd (omega (arith, below))
 there_is (item ∷ items) zero below = (item, refl)
 there_is (item ∷ items) (suc at) below = there_is items at (omega (arith, below))
 
--- a logon for a trust is one for a trusted domain, as it is written down
+-- a logon for a trust (`IsForTrust`) is written down as one for a trusted domain (`IsForTrusted`)
 trusted_so : (plan : Plan) (w : Where) (line : Line) (c : JudgedCall) (d after : TrustDesk) (goes : IsForTrust c d) (channel : SecureChannelState) → (plan.seals || plan.hands_on) ≡ true →
     checked_on (computer_named c) d.work.work.computers ≡ Some channel → IsForTrusted plan (trusted_judging w line c d after) channel
 trusted_so plan w line c d after goes channel hands stands = record {
@@ -88,7 +88,8 @@ trusted_so plan w line c d after goes channel hands stands = record {
   routed = goes.routed;
 }
 
--- so is one the other way, where each domain that the table trusts can be asked
+-- a call that is written down as one for a trusted domain is a logon for a trust, where each domain that the table
+-- trusts can be asked
 goes_so : (plan : Plan) (w : Where) (line : Line) (c : JudgedCall) (d after : TrustDesk) (channel : SecureChannelState) → length d.work.queues.requesters ≡ length d.table.trusts →
     IsNextOn (checked_on (computer_named c) d.work.work.computers) (given_in c) → checked_on (computer_named c) d.work.work.computers ≡ Some channel →
     IsForTrusted plan (trusted_judging w line c d after) channel → IsForTrust c d
@@ -308,6 +309,6 @@ by_plan false plan moves off nothing =
 by_plan true plan moves on nothing =
     told_after plan (ap (λ (seals : Bool). seals || plan.hands_on) nothing.controllers ∙ on) on moves nothing
 
--- in every run
+-- calls are told with their statuses in every run in which nothing seals
 pub statuses_told : (plan : Plan) (moves : List Move) → NothingSeals plan → StatusesAreTold (past plan moves)
 statuses_told plan moves nothing = by_plan plan.hands_on plan moves refl nothing

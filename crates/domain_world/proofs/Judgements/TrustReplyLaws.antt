@@ -65,7 +65,7 @@ use Rattle.domain_world.proofs.Moves.TrustFrontLaws.{accepted_way, trust_front}
 
 -- ---- a call that was handed on is among those that were judged
 
--- it is that call, whichever unit is written down as its reply
+-- both are one call, whichever unit is written down as its reply
 record IsThatCall (one j : Judging) : Type 0 where
   how : j.how ≡ one.how
   source : j.source ≡ one.source
@@ -79,8 +79,8 @@ itself_by true j number = refl
 that_call : (j : Judging) (number : Option ℕ) → IsThatCall j (record j { reply = number })
 that_call j number = record { how = refl; source = refl; number = refl; passed = itself_by (has_passed j.how) j number }
 
--- it was handed on, and is written down as judged
-abbrev IsKnown : List Judging → Judging → Type 0
+-- the call was handed on, and is written down as judged
+abbrev IsKnown : (judgings : List Judging) (one : Judging) → Type 0
 IsKnown judgings one = (one.how ≡ Some judged.Forwarded) × OneOf (IsThatCall one) judgings
 
 known_more : (judgings more : List Judging) (one : Judging) → ((P : Judging → Type 0) → OneOf P judgings → OneOf P more) → IsKnown judgings one → IsKnown more one
@@ -179,7 +179,7 @@ known_keep Known = record {
   over = λ n at on next s given b none all. kept_known b.judged (still_waits s) b.forwards all;
 }
 
--- ---- a reply to one of these is a reply to one of those
+-- ---- a reply to one of the calls is one where those calls are among others
 
 of_others : (plan : Plan) (mark : Mark) (judgings others : List Judging) (number : ℕ) (bytes : List ℕ) → ((P : Judging → Type 0) → OneOf P judgings → OneOf P others) →
     IsReplyOfAny plan judgings number bytes mark → IsReplyOfAny plan others number bytes mark
@@ -230,7 +230,8 @@ module _ (plan : Plan) (hands : HandsOn plan) where
   of_first (ReplyTo channel call request) (Some j) number bytes more is = inl (inl (either_numbered channel call request number j bytes is))
 
   module _ (number : ℕ) (bytes : List ℕ) (mark : Mark) where
-    -- at one place stand the mark, what was sent for it, and the number of that unit
+    -- `IsReplyOfAny` holds of bytes that were sent for the mark, where the mark and the unit's number stand at their
+    -- place
     abbrev IsPlaced : List Answered → Type 0
     IsPlaced answers =
         (sent : List (List ℕ)) (numbers : List ℕ) (place : ℕ) → AreSentBy CarriesTrustReply answers sent → slice_get (answered_marks answers) place ≡ Some mark →
@@ -295,7 +296,7 @@ module _ (plan : Plan) (judgings : List Judging) (number : ℕ) (bytes : List �
   beside_free (one ∷ forwards) after unit all =
       mark_or_free (is_sent_on one.link true unit && not (still_waits after one)) one (beside_mark forwards after unit) all.0 (beside_free forwards after unit all.1)
 
--- at a place of the marks where bytes come on the link of a turn
+-- `IsReplyOfAny` holds of the mark with any unit and bytes, as where bytes come on the link of a turn
 abbrev AnyUnitFree : Plan → List Judging → Mark → Type 0
 AnyUnitFree plan judgings mark = (number : ℕ) (bytes : List ℕ) → IsReplyOfAny plan judgings number bytes mark
 
@@ -318,12 +319,12 @@ module _ (plan : Plan) (judgings : List Judging) where
 abbrev OfUnit : Plan → UnitFact (List Judging)
 OfUnit plan judgings number unit mark = IsReplyOfAny plan judgings number unit.bytes mark
 
--- a controller that keeps no such accepted link answers nothing there
+-- where no units are served, none is written down as answered, whether the step is taken or not
 nothing_taken : {U : Type 0} (given : Result (List Action) StepRefused) (units : List U) → units ≡ [] → units_if_taken given units ≡ []
 nothing_taken (Ok actions) units none = none
 nothing_taken (Err why) units none = refl
 
--- on an accepted link
+-- the link of that number is one that the controller accepted
 record IsServed (s : State) (at : ℕ) (c : ControllerState) (number : ℕ) : Type 0 where
   is : IsAccepted s.links at number
 
@@ -372,7 +373,7 @@ module _ (c : ControllerState) (at : ℕ) (w : Delivery) (piece : List ℕ) (s :
   ]
 
 module _ (plan : Plan) (hands : HandsOn plan) where
-  -- what the controller sends at that place
+  -- `IsReplyOfAny` holds of what the controller sends at a place of its marks
   new_reply : (given : Result (List Action) StepRefused) (c : ControllerState) (at : ℕ) (w : Delivery) (piece : List ℕ) (s : State) (numbers : List ℕ) (place number : ℕ) (bytes : List ℕ) (mark : Mark) →
       is_on w.link c.trusting.dialling ≡ false → (trust_step_of c (event.Bytes w.link piece) s.moment s.chances.left).answer ≡ given → slice_get (answered_marks (answers_of at c w piece s)) place ≡ Some mark →
       slice_get (sends_in (actions_by given)) place ≡ Some bytes → slice_get numbers place ≡ Some number →
@@ -466,6 +467,6 @@ by_plan false plan moves off nothing = λ number unit sent there marked.
 by_plan true plan moves on nothing =
     replies_after plan (ap (λ (seals : Bool). seals || plan.hands_on) nothing.controllers ∙ on) moves nothing
 
--- in every run
+-- replies are of their calls in every run in which nothing seals
 pub replies_of_calls : (plan : Plan) (moves : List Move) → NothingSeals plan → RepliesAreOfTheirCalls (past plan moves)
 replies_of_calls plan moves nothing = by_plan plan.hands_on plan moves refl nothing

@@ -85,7 +85,7 @@ module _ (test : Account → Bool) (users : (account : Account) → test account
   place_leaves [] place is = absurd (no_some place is)
   place_leaves (account ∷ accounts) place is = hit_leaves (test account) account accounts place (λ at there. place_leaves accounts at there) refl is
 
--- the same, of a place that is known first
+-- users are left as they are, where the place of another account is known first
 found_leaves : (test : Account → Bool) (hash : List ℕ) (accounts : List Account) (place : ℕ) → place_of test accounts ≡ Some place →
     ((account : Account) → test account ≡ true → is_user account.kind ≡ false) → users_of (at_place place (with_new_hash hash) accounts) ≡ users_of accounts
 found_leaves test hash accounts place is users = place_leaves test users hash accounts place is

@@ -51,7 +51,7 @@ use Rattle.step_notes.proofs.Members.CallLogonLaws.{calls_carry}
 use Rattle.step_notes.proofs.Members.KeptLogonLaws.{HasFor, IsFor, KeptIn, OfEach, each_found, turn_keeps}
 use Rattle.step_notes.proofs.Members.RequestOrderLaws.{requests_first}
 use Rattle.step_notes.proofs.Members.TurnUnitLaws.{taking_by, turn_units_such}
-use Rattle.domain_world.proofs.Accepting.LetInLaws.{HoldsOf, run_holds}
+use Rattle.domain_world.proofs.Acceptance.LetInLaws.{HoldsOf, run_holds}
 use Rattle.domain_world.proofs.Messages.KeptAskLaws.{members_ask, one_asks}
 
 -- ---- what holds of what a member keeps, and of what it keeps behind a unit that the turn goes on after, holds before

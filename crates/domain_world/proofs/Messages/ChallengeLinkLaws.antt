@@ -69,7 +69,7 @@ Comes w Free Sent (one ∷ []) messages part =
     Free × (one.link ≡ w.link) × AreTakenWith (ReadOf one) messages × IfUnservedPart (IsSoFar ⊥ (ReadOf one)) part
 Comes w Free Sent (one ∷ other ∷ more) messages part = ⊥
 
--- and no message is taken while nothing is bound
+-- no message is taken while nothing is bound
 abbrev pub NoneFresh : List MessageTaken → Option Talk → Type 0
 NoneFresh messages None = Unit {0}
 NoneFresh messages (Some talk) = is_fresh talk.phase ≡ true → messages ≡ []
@@ -187,7 +187,7 @@ module _ (w : LinkAt) (Free : Type 0) (Sent : List ℕ → ℕ → Type 0) where
 abbrev pub KnownAt : (ℕ → Type 0) → (ℕ → List ℕ → ℕ → Type 0) → ℕ → Phase → Type 0
 KnownAt Free Sent n p = IsSoFar (Free n) (Sent n) p
 
--- the same where that CHALLENGE was sent on that link
+-- how far a link is known to be, where that CHALLENGE was sent on that link
 abbrev pub KnownAfter : (ℕ → Type 0) → (ℕ → List ℕ → ℕ → Type 0) → ℕ → ChallengeSent → ℕ → Phase → Type 0
 KnownAfter Free Sent link one n p = (KnownAt Free Sent n p × (n ≢ link)) ⊎ ((n ≡ link) × IsSoFar ⊥ (ReadOf one) p)
 

@@ -52,7 +52,7 @@ pub record KeepsOn (c : ClientState) (link : ℕ) (key : List ℕ) : Type 0 wher
   pub is_link : own.talk.link ≡ link
   pub is_key : terms.key ≡ key
 
--- it is in with that key
+-- a client is in with that key
 pub record IsInWith (c : ClientState) (key : List ℕ) : Type 0 where
   pub name : List ℕ
   pub echoed : ℕ

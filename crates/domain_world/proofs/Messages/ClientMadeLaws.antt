@@ -136,7 +136,7 @@ pub record IsItself (plans : List ClientPlan) (links : List Route) (k : ℕ) (c 
   pub task : TaskIn (λ (plan : ClientPlan). slice_get plans k ≡ Some plan) c.running
   pub link : AtUnlessStopped (IsClients links k) c.running
 
--- as `IsOfItsClient`, by these plans and links
+-- a message is its client's own, as in `IsOfItsClient`, by plans and links
 pub record IsOwnMade (plans : List ClientPlan) (links : List Route) (made : MessageMade) : Type 0 where
   pub plan : slice_get plans made.client ≡ Some made.plan
   pub link : IsClients links made.client made.link

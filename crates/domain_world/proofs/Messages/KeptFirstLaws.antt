@@ -38,7 +38,7 @@ last_apart : (place : ℕ) (logons : List Waiting) (last : Waiting) → AllByRec
 last_apart place [] last all = all.0
 last_apart place (first ∷ logons) last all = last_apart place logons last all.1
 
--- it has another place than the first that waits, for which the turn is
+-- the last logon that waits has another place than the first, for which the turn is
 not_last : (pending : Pending) (logons : List Waiting) (last : Waiting) → IsForFirst (Some pending) logons → ArePlacesApart (logons ++ last ∷ []) → last.place ≢ pending.place
 not_last pending [] last first apart = absurd first
 not_last pending (logon ∷ logons) last first apart = λ is. last_apart logon.place logons last apart.0 (sym first.0 ∙ sym is)

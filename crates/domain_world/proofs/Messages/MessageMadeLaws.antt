@@ -61,14 +61,14 @@ client_put made plans clients left rest at new kept eights names = record {
   from = kept.from;
 }
 
--- what is left is less
+-- messages are answers where less is left
 left_so : (made : List MessageMade) (plans : List ClientPlan) (clients : List ClientState) (left rest : List (List ℕ)) → AreAnswers made plans clients left → AreEights rest →
     AreAnswers made plans clients rest
 left_so made plans clients left rest kept eights = record { names = kept.names; each = kept.each; eights = eights; from = kept.from }
 
 -- ---- an end hears something
 
--- so it is once an end took that step, where what is left has eights
+-- messages are answers once an end took that step, where what is left has eights
 abbrev AnswersAfter : List MessageMade → List ClientPlan → EndStep → Type 0
 AnswersAfter made plans step = AreEights step.chances.left → AreAnswers made plans step.ends.clients step.chances.left
 

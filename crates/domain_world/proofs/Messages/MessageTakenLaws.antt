@@ -157,7 +157,7 @@ known_more challenges one links member link p differs known =
     so_far (IsUnsent challenges links member link) (IsUnsent (challenges ++ one ∷ []) links member link) (IsSentSo challenges link) (IsSentSo (challenges ++ one ∷ []) link)
     (λ unsent. unsent_more challenges one links member link unsent (differs unsent.0)) (sent_more challenges (one ∷ []) link) p known
 
--- it is the one that was sent
+-- the last CHALLENGE is the one that was sent
 is_last : (challenges : List ChallengeSent) (one : ChallengeSent) (link : ℕ) (challenge : List ℕ) (flags : ℕ) → one.link ≡ link → ReadOf one challenge flags →
     IsSentSo (challenges ++ one ∷ []) link challenge flags
 is_last challenges one link challenge flags same read = one_behind (λ (sent : ChallengeSent). (sent.link ≡ link) × ReadOf sent challenge flags) challenges (one ∷ []) (inl (same, read))

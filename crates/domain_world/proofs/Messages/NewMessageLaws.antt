@@ -17,7 +17,7 @@ use Rattle.step_notes.specs.Records.{MessageTaken}
 use Rattle.step_notes.specs.Served.{talk_after, work_after}
 use Rattle.step_notes.proofs.Members.UnservedLaws.{LinksIn, Took, bytes_took}
 use Rattle.world_moves.specs.declared.links.Route.{Route}
-use Rattle.domain_world.proofs.Accepting.LetInStepLaws.{IsAcceptedBy}
+use Rattle.domain_world.proofs.Acceptance.LetInStepLaws.{IsAcceptedBy}
 use Rattle.domain_world.proofs.Calls.WholeOutLaws.{AreAccepted}
 use Rattle.wire_base.proofs.AllLaws.{all_flat}
 

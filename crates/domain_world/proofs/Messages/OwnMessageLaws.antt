@@ -212,7 +212,7 @@ kept_on = record {
   anew = λ messages plan at members chances links all. set_kept messages members at (fresh_member plan) (fresh_kept messages plan) all;
 }
 
--- as a fact of all ends
+-- what members keep of their messages, as a fact of all ends
 abbrev pub EachKept : List MessageTaken → Fact
 EachKept messages = AmongMembers messages_in AllKept kept_on messages
 

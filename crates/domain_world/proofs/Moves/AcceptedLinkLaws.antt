@@ -1,5 +1,5 @@
 -- In every run in which nothing seals the accepted links that a controller at work keeps are links of the world that it
--- accepted. So it serves nothing on a link that it dialled. It serves `Proved.replies`.
+-- accepted: a controller serves nothing on a link that it dialled. The law serves `Proved.replies`.
 use Rattle.std.proofs.Common.{◌≡◌, ℕ, ◌+◌, ◌==◌, Bool, true, false, List, [], ◌∷◌, ◌++◌, length, inl, inr, Option, Some, None, Result, Ok, Err, slice_get, slice_set, refl, sym, subst, arith, if◌then◌else◌}
 use Rattle.std.specs.List.{AllByRecursion}
 use Rattle.std.proofs.lemmas.Bool.Decides.{Decides-eqb}
@@ -129,7 +129,7 @@ module _ (P : ℕ → Type 0) where
       serve_such (lookup same_number number parts.links) number piece name now (take_out same_number number parts.links) table parts left
       (λ link there. all_found number parts.links link all there) (all_out number parts.links all)
 
-  -- a link that opens is such a one
+  -- `P` holds of the number of a link that opens
   abbrev pub OpensSuch : Event → Type 0
   OpensSuch (event.Opened number) = P number
   OpensSuch (event.Bytes number piece) = Unit {0}

@@ -44,7 +44,7 @@ abbrev pub CameFrom : Source → State → Delivery → List ℕ → Type 0
 CameFrom Outside s w piece = IsFromOutside s.links w.link
 CameFrom (InUnit number) s w piece = IsPieceOf s number w piece
 
--- they are a piece of a unit of the bag
+-- bytes that come are a piece of a unit of the bag
 pub record CameInUnit (source : Source) (s : State) (w : Delivery) (piece : List ℕ) : Type 0 where
   pub number : ℕ
   pub is : source ≡ InUnit number

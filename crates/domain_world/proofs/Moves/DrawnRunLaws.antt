@@ -46,7 +46,7 @@ use Rattle.domain_world.proofs.Moves.LeftLaws.{end_rests}
 
 -- ---- a step
 
--- it draws what it doesn't leave
+-- a step draws what it doesn't leave
 abbrev DrawsRest : {S : Type 0} → Stepped S → List (List ℕ) → Type 0
 DrawsRest step left = step.drawn ++ step.left ≡ left
 
@@ -114,7 +114,7 @@ any_controller_draws : (kept : Option Sealing) (c : ControllerState) (what : Eve
 any_controller_draws None c what now left = trusting_draws c.running c what now left (plain_rest c.running c what now left)
 any_controller_draws (Some kept) c what now left = sealing_draws c.running kept c what now left
 
--- and of any member
+-- a step of any member draws what it doesn't leave
 member_draws_with : (kept : Option TurnSealing) (running : MemberRunning) (m : MemberState) (what : Event) (now : ℕ) (left : List (List ℕ)) →
     DrawsRest (sealed.step_with kept running m what now left) left
 member_draws_with None running m what now left = member_draws (Some running) m what now left (member_leaves (record { running = Some running }) what now left)

@@ -62,7 +62,7 @@ first_blocks seed count =
 pub first_eights : (plan : Plan) → AreEights (plain_world plan).state.chances.left
 first_eights plan = first_blocks plan.seed (most_draws - 0)
 
--- and they are bytes
+-- the challenges that are left are bytes, 8 each
 abbrev pub AreBlocks : List (List ℕ) → Type 0
 AreBlocks left = AllByRecursion (λ (challenge : List ℕ). stubs.IsBlock 8 challenge) left
 
@@ -127,6 +127,6 @@ end_draws end what now ends chances =
     (λ at m is rest. record { more = (member_step_of m what now chances.left).drawn; is = refl; rest = rest })
     (λ at c is rest. record { more = (client_step_of c what now chances.left).drawn; is = refl; rest = rest }) end (end_rests end what now ends chances)
 
--- what is left has eights where it had them
+-- the challenges that are left have eights where they had them
 pub eights_after : (chances later : Drawing) → DrawsOn chances later → AreEights chances.left → AreEights later.left
 eights_after chances later on eights = eights_rest later.left chances.left on.rest eights

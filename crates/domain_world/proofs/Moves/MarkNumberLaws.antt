@@ -25,7 +25,7 @@ use Rattle.wire_base.proofs.ListLaws.{got_nothing, some_is}
 
 -- ---- marks and numbers, in order
 
--- as far as both go, each mark is so at its number
+-- `At` holds of each number and its mark, as far as both go
 abbrev pub AtNumbers : (ℕ → Mark → Type 0) → List Mark → List ℕ → Type 0
 AtNumbers At [] numbers = Unit {0}
 AtNumbers At (mark ∷ marks) [] = Unit {0}
@@ -79,7 +79,7 @@ module _ (link : ℕ) (back : Bool) where
   marks_numbered [] marks first = none_numbered (IsGiven [] first) marks
   marks_numbered (unit ∷ units) marks first = first_numbered (is_sent_on link back unit) units marks first (λ others. marks_numbered units others (first + 1))
 
--- ---- the mark of a unit is the next of them, and the unit has its number
+-- ---- the mark of a unit is the next of the marks, and the unit has its number
 
 -- the mark and the number stand at one place
 pub record StandsAt (marks : List Mark) (numbers : List ℕ) (number : ℕ) (mark : Mark) : Type 0 where
@@ -119,7 +119,8 @@ module _ (link : ℕ) (back : Bool) where
       one_later first other marks (places_from (is_sent_on link back) (first + 1) units) (first + suc place) mark
       (same_number marks (places_from (is_sent_on link back) (first + 1) units) (first + 1 + place) (first + suc place) mark (omega arith) (later marks place there))
 
-  -- of units of which the first has that number
+  -- the mark at a place of the units' marks is plain, or stands with the number of the unit there; the first unit has
+  -- the number `first`
   pub mark_at : (units : List BagUnit) (marks : List Mark) (first place : ℕ) (mark : Mark) → slice_get (marks_of link back units marks) place ≡ Some mark →
       PlainOrAt marks (places_from (is_sent_on link back) first units) (first + place) mark
   mark_at [] marks first place mark there = absurd (got_nothing place mark there)
@@ -146,7 +147,7 @@ given_marked old count at given n mark even it =
       is = refl;
     }
 
--- the unit is written down with that mark, and was sent after so many moves
+-- the unit `n` is written down with that mark, and was sent after `moves` moves
 pub record IsMarkedAt (sent : List Sent) (moves n : ℕ) (mark : Mark) : Type 0 where
   pub one : Sent
   pub there : slice_get sent n ≡ Some one
@@ -188,7 +189,7 @@ module _ (route : Route) (end : EndId) (link : ℕ) (back : Bool) (way : is_acce
   sends_numbered later (Told other outcome ∷ actions) first here = sends_numbered later actions first here.1
   sends_numbered later (Judged how ∷ actions) first here = sends_numbered later actions first here.1
 
-  -- so there are as many numbers as marks at least
+  -- there are as many numbers as marks at least
   pub numbers_enough : (actions : List Action) (marks : List Mark) (s : State) → slice_get s.links link ≡ Some route → is_own (kind_of route) ≡ true → IsFront link marks actions →
       length marks ≤ length (numbers_on link back s.bag (perform_all end actions s).state.bag)
   numbers_enough actions marks s made own f =

@@ -115,7 +115,7 @@ marks_length link back [] marks = refl
 marks_length link back (unit ∷ units) marks =
     length_by (is_sent_on link back unit) marks (λ (rest : List Mark). marks_of link back units rest) (length units) (λ rest. marks_length link back units rest)
 
--- where there are no marks, or the unit isn't on the link
+-- all marks are plain: there are none, or the unit isn't on the link
 abbrev pub ArePlain : List Mark → Type 0
 ArePlain marks = (k : ℕ) (mark : Mark) → slice_get marks k ≡ Some mark → mark ≡ Plain
 
@@ -167,7 +167,7 @@ here_does route end link (Close other cause) s made own here = absurd here
 here_does route end link (Told other outcome) s made own here = (refl, refl)
 here_does route end link (Judged how) s made own here = (refl, refl)
 
--- they go into the bag first
+-- the units that actions on a link make go into the bag first
 pub front_goes : (route : Route) (end : EndId) (link : ℕ) (actions : List Action) (s : State) → slice_get s.links link ≡ Some route → is_own (kind_of route) ≡ true →
     AllByRecursion (IsHere link) actions → (perform_all end actions s).state.bag ≡ s.bag ++ front_units route end link actions
 front_goes route end link [] s made own here = sym (append-nil s.bag)
@@ -182,7 +182,7 @@ pub all_append : (end : EndId) (front rest : List Action) (s : State) → (perfo
 all_append end [] rest s = refl
 all_append end (what ∷ front) rest s = all_append end front rest (perform end what s).state
 
--- ---- and get the marks in order
+-- ---- the units that go into the bag get the marks in order
 
 -- at a place among these marks, these bytes that are sent, and these units, of which the first has that number
 pub record IsMarkedAt (link : ℕ) (back : Bool) (sends : List (List ℕ)) (marks : List Mark) (units : List BagUnit) (first place : ℕ) (unit : BagUnit) (mark : Mark) : Type 0 where

@@ -34,7 +34,7 @@ use Rattle.domain_world.proofs.Frames.TurnFrameLaws.{asked_book, turns_sent}
 
 -- ---- no more have marks than there are
 
--- the new units get these marks
+-- no more units have marks than there are once the new ones get theirs
 more_marks : (sent : List Sent) (before after : List BagUnit) (link : ℕ) (back : Bool) (marks : List Mark) (at : ℕ) → length before ≤ length after → length sent ≤ length before →
     length (sent ++ map (sent_at at) (marks_of link back (drop (length before) after) marks)) ≤ length after
 more_marks sent before after link back marks at more few =
@@ -49,7 +49,7 @@ more_marks sent before after link back marks at more few =
       length-drop (length before) after,
     )
 
--- so it is where a controller hears bytes
+-- a controller that hears bytes gives each unit one mark
 asking_by_length : (on : Bool) (marks : List Mark) (other : Mark) (later : List Mark → List Mark) (n : ℕ) → ((rest : List Mark) → length (later rest) ≡ n) → length (asking_by on marks other later) ≡ suc n
 asking_by_length false marks other later n same = ap suc (same marks)
 asking_by_length true [] other later n same = ap suc (same [])
@@ -67,7 +67,7 @@ heard_length false at c w piece s after forwards units = marks_length w.link tru
 heard_length true at c w piece s after forwards units =
     asking_length w.link (λ unit. beside_mark forwards after unit) units (turn_marks (asking_notes c w piece s))
 
--- so many are the marks of the units that have none yet
+-- there are as many marks of other units as units that have none yet
 pub others_length : (forwards : List Forward) (after : State) (marked : ℕ) → length (other_marks forwards after marked) ≡ length after.bag - marked
 others_length forwards after marked =
     length-map (drop marked after.bag) (λ (unit : BagUnit). beside_mark forwards after unit) ∙ length-drop marked after.bag
@@ -145,7 +145,7 @@ few_keep = record {
       omega (arith, few, length-append b.sent (map (sent_at at) others), length-map others (sent_at at), others_length b.forwards s (length b.sent));
 }
 
--- ---- and none is left without
+-- ---- no unit is left without a mark
 
 -- no unit is left without a mark at the end of a move
 none_left : (moves : List Move) (w : World) (b : Book) → length w.state.bag ≤ length b.sent → length (run moves w).state.bag ≤ length (book moves w b).sent

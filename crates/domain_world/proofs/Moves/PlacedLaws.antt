@@ -112,7 +112,7 @@ settled_bag number bag have = record {
 
 -- ---- a unit that comes
 
--- its kind and its link stay as a unit is settled
+-- the kind and the link of a unit stay as a unit is settled
 pub settled_link : (number link : ℕ) (unit found : BagUnit) (s : State) → slice_get s.bag number ≡ Some unit → IsLinkOf s.links link unit.kind →
     slice_get (settle_at number s.bag) number ≡ Some found → IsLinkOf s.links link found.kind
 settled_link number link unit found s there of is =
@@ -160,6 +160,6 @@ short_units bag short = All-from_recursion (λ (unit : BagUnit). length unit.byt
 pub units_have_bytes : (bag : List BagUnit) → BytesIn bag → HaveBytes bag
 units_have_bytes bag are = All-from_recursion (λ (unit : BagUnit). AreBytes unit.bytes) bag (all_each AreBytes bag are)
 
--- they have their places in the first world
+-- units have their places in the first world
 pub placed_first : (plan : Plan) → IsPlaced (first_world plan).state
 placed_first plan = record { made = tt; kinds = λ k unit there. absurd (got_nothing k unit there) }

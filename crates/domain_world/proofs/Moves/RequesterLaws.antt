@@ -24,7 +24,7 @@ use Rattle.world_moves.specs.MemberPlans.{AreAlikeButSecrets}
 use Rattle.world_moves.specs.Plain.{plain_world}
 use Rattle.domain_world.specs.Claims.SharedSequences.{ChannelStands}
 use Rattle.domain_world.specs.Past.{controller_asked, controller_of_plan, requester_at, requester_in, running_in}
-use Rattle.domain_world.proofs.Accepting.Turns.TurnFactLaws.{SameEnds}
+use Rattle.domain_world.proofs.Acceptance.Turns.TurnFactLaws.{SameEnds}
 use Rattle.domain_world.proofs.Messages.MessageOnceLaws.{set_cases}
 use Rattle.domain_world.proofs.Moves.MarkPlaceLaws.{got_map}
 use Rattle.domain_world.proofs.Moves.MemberPlanLaws.{controllers_alike}
@@ -39,7 +39,7 @@ asked_in (OfMember k) plans ends = controller_of_plan (slice_get plans k) ends
 pub asked_now : (who : RequesterId) (s : State) → asked_in who s.member_plans s.ends ≡ controller_asked who s
 asked_now (OfMember k) s = refl
 
--- it asks the same one by plans that are alike but for secrets
+-- a requester asks one controller by plans that are alike but for secrets
 pub asked_alike : (who : RequesterId) (plans later : List MemberPlan) (ends : EndStates) → AreAlikeButSecrets plans later → asked_in who later ends ≡ asked_in who plans ends
 asked_alike (OfMember k) plans later ends alike = controllers_alike plans later k ends alike
 
@@ -83,7 +83,7 @@ same_is (OfMember one) (OfMember other) is = ap OfMember ((Decides-eqb one other
 pub same_asks : (one other : RequesterId) → same_requester one other ≡ asks_at other (asking_end one)
 same_asks (OfMember one) (OfMember other) = refl
 
--- ---- its state
+-- ---- the state of a requester
 
 -- the running state of the end at which a requester asks
 abbrev pub asker_in : RequesterId → EndStates → Option Running
@@ -135,7 +135,7 @@ asker_put P at new ends none here others (OfMember k) = by (slice_get (slice_set
           (others (OfMember k) (λ same. other.0 (let x : OfMember k ≡ OfMember at = same in cc)))
     ]
 
--- the same, with the controller that each asks
+-- what holds of each requester and the controller that it asks, where a member is put
 pub asked_put : (P : RequesterId → ℕ → Option Running → Type 0) (plans : List MemberPlan) (at : ℕ) (new : MemberState) (ends : EndStates) → ((who : RequesterId) (controller : ℕ) → P who controller None) →
     P (OfMember at) (asked_in (OfMember at) plans ends) new.running → ((who : RequesterId) → who ≢ OfMember at → P who (asked_in who plans ends) (asker_in who ends)) →
     (who : RequesterId) → P who (asked_in who plans (with_member at new ends)) (asker_in who (with_member at new ends))

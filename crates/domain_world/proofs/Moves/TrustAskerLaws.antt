@@ -56,7 +56,7 @@ use Rattle.domain_controller.specs.declared.trusting.TrustWork.{TrustWork}
 use Rattle.domain_controller.proofs.HandOnLaws.{AnsweredHere, CallComes, ForwardedOn, call_comes}
 use Rattle.domain_controller.proofs.TrustPlaceLaws.{got_all, set_all}
 
--- what stays through all that one that asks does
+-- `Fits` stays through all that a requester does
 pub record KeepsAsker (Fits : Requester → Type 0) : Type 0 where
   pub takes : (s : Requester) (unit : RpcUnit) → Fits s → Fits (take_of s unit).state
   pub loses : (s : Requester) → Fits s → Fits (lose_of s).state
@@ -70,7 +70,7 @@ module _ (Fits : Requester → Type 0) (keeps : KeepsAsker Fits) where
   abbrev WorkFits : TrustWork → Type 0
   WorkFits w = AllFit w.queues.requesters
 
-  -- ---- a turn that ended leaves them
+  -- ---- a turn that ended leaves requesters that fit
 
   found_fit : (found : Option ForwardedState) (place : ℕ × ℕ) (verdict : Verdict) (w : TrustWork) → WorkFits w → WorkFits (answer_found found place verdict w)
   found_fit None place verdict w fits = fits

@@ -103,7 +103,7 @@ dial_sends : (dial : Option (List ℕ)) → sends_in (dial_of dial) ≡ []
 dial_sends None = refl
 dial_sends (Some peer) = refl
 
--- a dial behind it changes nothing of that
+-- `HasFront` stays where a dial is behind the actions
 front_more : (link : ℕ) (actions : List Action) (dial : Option (List ℕ)) → HasFront link actions → HasFront link (actions ++ dial_of dial)
 front_more link actions dial has = record {
   front = has.front;
@@ -210,6 +210,6 @@ module _ (c : ControllerState) (w : Where) (link : ℕ) (piece : List ℕ) (now 
             ∙ sends_by answer refl each;
       }
 
--- on a link that the controller accepted
+-- a link whose acceptor is the controller is one that the controller accepted
 pub accepted_way : (route : Route) (at : ℕ) → acceptor_of route ≡ Controller at → is_accepted_by (Controller at) route ≡ true
 accepted_way route at is = ap (λ (end : EndId). same_end end (Controller at)) is ∙ (Decides-eqb at at).1 refl

@@ -69,7 +69,7 @@ use Rattle.world_moves.proofs.QuietLaws.{units_by}
 use Rattle.domain_world.specs.Accepting.Runs.{IsOfMember}
 use Rattle.domain_world.specs.Past.{Delivery}
 use Rattle.wire_base.proofs.ListLaws.{at_end, got_append, got_last, got_nothing, some_is}
-use Rattle.domain_world.proofs.Accepting.LetInStepLaws.{IsAcceptedBy, IsDialledBy}
+use Rattle.domain_world.proofs.Acceptance.LetInStepLaws.{IsAcceptedBy, IsDialledBy}
 use Rattle.domain_world.proofs.Quiet.QuietListenLaws.{ListensWell, OpensWell, WellUnlessStopped, entries_so}
 use Rattle.domain_world.proofs.Quiet.QuietTurnLaws.{IfOn, IsOneUnit}
 use Rattle.domain_world.proofs.Messages.MessageOnceLaws.{each_put}
@@ -260,7 +260,7 @@ sent_whole end links what link bytes route is fine made =
     let all : QuietAction end links (Send link bytes) = subst (QuietAction end links) is fine in
     ((λ on. let own = members_link route on in all.0 (own.0, own.1.0, made ∙ ap (λ (r : Route). Some r) own.1.1)), all.1)
 
--- the same, where the plans are alike but for secrets
+-- a world stands quiet by plans that are alike but for secrets
 with_plans : (plans later : List MemberPlan) (tasks : List ClientPlan) (links : List Route) (units : List BagUnit) (ends : EndStates) (now : ℕ) (left : List (List ℕ)) → AreAlikeButSecrets plans later →
     StandsQuiet plans tasks links units ends now left → StandsQuiet later tasks links units ends now left
 with_plans plans later tasks links units ends now left alike quiet = record {

@@ -49,7 +49,7 @@ use Rattle.world_moves.specs.Plain.{plain_member_step as member_step}
 use Rattle.domain_world.specs.Accepting.Runs.{IsOfMember}
 use Rattle.wire_base.proofs.ListLaws.{some_is}
 use Rattle.domain_world.proofs.Frames.AloneStepLaws.{alone_by as step_by}
-use Rattle.domain_world.proofs.Accepting.LetInStepLaws.{IsAcceptedBy, IsDialledBy}
+use Rattle.domain_world.proofs.Acceptance.LetInStepLaws.{IsAcceptedBy, IsDialledBy}
 use Rattle.domain_world.proofs.Quiet.QuietListenLaws.{OpensWell, WellUnlessStopped, entries_so, listens_on}
 use Rattle.domain_world.proofs.Quiet.QuietTurnLaws.{ComesWell, IfOn, OnUnlessStopped, turn_stays}
 use Rattle.domain_world.proofs.Messages.MessageOnceLaws.{each_put}

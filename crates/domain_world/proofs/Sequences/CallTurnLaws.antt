@@ -116,7 +116,7 @@ module _ (Done Later : ℕ → Type 0) (so : (n : ℕ) → Done n → Later n) (
     far = far_still turn (timestamp_bound (step_in turn)) calls.made (stamps_on c own) calls.far;
   }
 
--- ---- a requester that stays so
+-- ---- what is known of a requester's calls
 
 module _ (Done : ℕ → Type 0) (marks : List Mark) (own : List ChannelTurn) (controller : ℕ) where
   none_knows : (s : Requester) → ((c : ChannelIdentity) → stands_in controller s.caller.computer s.standing ≡ Some c → ⊥) → KnowsCalls Done marks own controller s

@@ -59,7 +59,7 @@ pub waiting_append : (its : EndId) (dials more : List WaitingDial) → waiting_d
 waiting_append its [] more = omega arith
 waiting_append its (dial ∷ dials) more = omega (arith, waiting_append its dials more)
 
--- as many as the claim counts
+-- a dial more in the list of an end's dials is one more in their count, if the dial is the end's
 counted_more : (hit : Bool) (dial : WaitingDial) (dials : List WaitingDial) (n : ℕ) → length dials ≡ n → length (if hit then dial ∷ dials else dials) ≡ one_if hit + n
 counted_more true dial dials n is = omega (arith, is)
 counted_more false dial dials n is = omega (arith, is)

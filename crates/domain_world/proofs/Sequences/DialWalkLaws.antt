@@ -1,7 +1,7 @@
 -- What holds through the moves of a world of its ends, its dials, the draws, and the turns that are written down:
--- whatever holds through each step of an end. It knows of each action that it is done once, and of each answer to a
--- dial that the dial waited. It is an instance of `MoveFrameLaws`, whether controllers ask others or not.
--- It serves `Proved.own` and `Proved.one_turn`.
+-- whatever holds through each step of an end. Of each action it is known that it is done once, and of each answer to a
+-- dial that the dial waited. The walk is an instance of `MoveFrameLaws`, whether controllers ask others or not. It
+-- serves `Proved.own` and `Proved.one_turn`.
 use Rattle.std.proofs.Common.{◌≡◌, ℕ, List, [], ◌∷◌, ◌++◌, length, Option, Some, None, slice_get, sym, subst}
 use Rattle.outside.specs.Drawing.{Drawing}
 use Rattle.outside.specs.declared.action.Action.{Action}
@@ -92,7 +92,7 @@ dials_keep how kinds Holds keeps Known = record {
   over = λ n at on next s given b none holds. keeps.over s given b.turns holds;
 }
 
--- in every run in which nothing seals
+-- what holds at first and through each step holds after every run in which nothing seals
 pub dials_after : (Holds : DialFact) → KeepsDials every Holds → (plan : Plan) (moves : List Move) → NothingSeals plan → AtState Holds None [] (plain_world plan).state [] [] →
     AtState Holds None [] (past plan moves).world.state [] (past plan moves).book.turns
 dials_after Holds keeps plan moves nothing holds =

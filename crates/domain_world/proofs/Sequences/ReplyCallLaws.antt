@@ -11,10 +11,10 @@ use Rattle.domain_world.specs.Accepting.Units.{UnitsAreHeard}
 use Rattle.domain_world.specs.Claims.Replies.{IsReplyOfOne}
 use Rattle.domain_world.specs.Past.{Past, past, plain_form}
 use Rattle.domain_world.specs.Schedules.{OfSchedules}
-use Rattle.domain_world.proofs.Accepting.AnsweredLaws.{passed_of}
-use Rattle.domain_world.proofs.Accepting.CarriedLaws.{requested}
+use Rattle.domain_world.proofs.Acceptance.AnsweredLaws.{passed_of}
+use Rattle.domain_world.proofs.Acceptance.CarriedLaws.{requested}
 use Rattle.wire_base.proofs.ListPlaceLaws.{placed}
-use Rattle.domain_world.proofs.Accepting.ScheduleLaws.{units_heard}
+use Rattle.domain_world.proofs.Acceptance.ScheduleLaws.{units_heard}
 use Rattle.domain_world.proofs.Judgements.ReplyLaws.{replies_carry}
 use Rattle.domain_world.proofs.Judgements.UnclashedLaws.{passes_unclashed}
 use Rattle.domain_world.proofs.Calls.MarkWayLaws.{marks_have_their_way}

@@ -37,10 +37,10 @@ use Rattle.domain_world.specs.Accepting.Sequences.{HavePassed, CallsAreStamped, 
 use Rattle.domain_world.specs.Claims.{IsClear, moved_on, passed_on, same_unit, judged_timestamp}
 use Rattle.domain_world.specs.Claims.SharedSequences.{IsBeforeTurn, ChannelIsKept, SequencesAreOwn, SequencesAreShared, any_foreign, is_foreign, timestamps_on}
 use Rattle.domain_world.specs.Past.{Past, past, plain_form}
-use Rattle.domain_world.proofs.Accepting.AnsweredLaws.{AreInUnit, IsMade, StandsFor, both_true, channel_there, in_unit, made_at, no_twice, passed_of, right_at, unit_same, came_in}
-use Rattle.domain_world.proofs.Accepting.AnsweredRunLaws.{is_proved}
-use Rattle.domain_world.proofs.Accepting.CarriedLaws.{one_unit, replies_to}
-use Rattle.domain_world.proofs.Accepting.UnitLaws.{heard_in}
+use Rattle.domain_world.proofs.Acceptance.AnsweredLaws.{AreInUnit, IsMade, StandsFor, both_true, channel_there, in_unit, made_at, no_twice, passed_of, right_at, unit_same, came_in}
+use Rattle.domain_world.proofs.Acceptance.AnsweredRunLaws.{is_proved}
+use Rattle.domain_world.proofs.Acceptance.CarriedLaws.{one_unit, replies_to}
+use Rattle.domain_world.proofs.Acceptance.UnitLaws.{heard_in}
 use Rattle.domain_world.proofs.Sequences.Own.OwnRunLaws.{sequences_own}
 use Rattle.wire_base.proofs.ListPlaceLaws.{Placed, placed}
 use Rattle.domain_world.proofs.Judgements.MovedLaws.{moved_same}
@@ -185,7 +185,7 @@ module _ (past : Past) (known : IsProved past) (heard : AnswersAreHeard past) (c
       all_so [] each answered = tt
       all_so (one ∷ some) each answered = (answered_one one each.0 answered.0, all_so some each.1 answered.1)
 
-  -- ---- so far the seed moved
+  -- ---- how far the seed moved
 
   abbrev base : List ℕ
   base = client_credential channel

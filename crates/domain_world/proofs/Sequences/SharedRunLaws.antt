@@ -4,7 +4,7 @@ use Rattle.domain_world.specs.Claims.{IsClear}
 use Rattle.domain_world.specs.Claims.SharedSequences.{SequencesAreShared}
 use Rattle.domain_world.specs.Past.{past}
 use Rattle.domain_world.specs.Schedules.{OfSchedules}
-use Rattle.domain_world.proofs.Accepting.ScheduleLaws.{units_heard}
+use Rattle.domain_world.proofs.Acceptance.ScheduleLaws.{units_heard}
 use Rattle.domain_world.proofs.Sequences.Own.OwnEndLaws.{turns_are_called}
 use Rattle.domain_world.proofs.Sequences.SharedLaws.{sequences_follow}
 use Rattle.domain_world.proofs.Sequences.StampLaws.{calls_stamped}

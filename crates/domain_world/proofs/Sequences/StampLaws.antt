@@ -12,9 +12,9 @@ use Rattle.domain_world.specs.Accepting.Carried.{call_carried}
 use Rattle.domain_world.specs.Accepting.Sequences.{CallsAreStamped}
 use Rattle.domain_world.specs.Past.{past}
 use Rattle.domain_world.specs.Schedules.{OfSchedules}
-use Rattle.domain_world.proofs.Accepting.CarriedLaws.{asked_is, one_whole}
-use Rattle.domain_world.proofs.Accepting.Heard.MarkSentLaws.{IsCallSent}
-use Rattle.domain_world.proofs.Accepting.Heard.MarkWholeLaws.{FitsMark, OfMark, marks_fit}
+use Rattle.domain_world.proofs.Acceptance.CarriedLaws.{asked_is, one_whole}
+use Rattle.domain_world.proofs.Acceptance.Heard.MarkSentLaws.{IsCallSent}
+use Rattle.domain_world.proofs.Acceptance.Heard.MarkWholeLaws.{FitsMark, OfMark, marks_fit}
 use Rattle.domain_world.proofs.Frames.BagFrameLaws.{IsOfUnit}
 use Rattle.domain_world.proofs.Moves.PlainFormLaws.{plain_heard}
 

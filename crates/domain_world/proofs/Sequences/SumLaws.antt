@@ -67,7 +67,7 @@ module _ (channel : ChannelIdentity) where
       by false is = refl
       by true is = absurd (differs (sym ((Decides-eqb m n).0 is)))
 
-  -- it came in another unit
+  -- a judging that came in another unit adds nothing
   miss : (m n timestamp : ℕ) (j : Judging) → passed_on channel j ≡ true → j.source ≡ InUnit n → n ≢ m → stamp_if (is_hit channel m j) timestamp ≡ 0
   miss m n timestamp j passed came differs =
       ap₂ (λ (b : Bool) (from : Source). stamp_if (b && same_unit (Some m) (unit_in from)) timestamp) passed came ∙ ap (λ (b : Bool). stamp_if b timestamp) (other_unit m n differs)
@@ -76,7 +76,7 @@ module _ (channel : ChannelIdentity) where
   added_apart [] j n passed came apart = refl
   added_apart (one ∷ made) j n passed came apart = omega (arith, miss one.0 n one.1 j passed came apart.0, added_apart made j n passed came apart.1)
 
-  -- it is not the first unit where it is a later one
+  -- a later unit isn't the first one
   later_differs : (first n timestamp : ℕ) (made : List (ℕ × ℕ)) → AllByRecursion (λ (other : ℕ × ℕ). first ≢ other.0) made →
       OneOf (λ (one : ℕ × ℕ). (one.0 ≡ n) × (one.1 ≡ timestamp)) made → n ≢ first
   later_differs first n timestamp [] apart one = absurd one

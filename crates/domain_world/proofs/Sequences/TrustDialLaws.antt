@@ -91,7 +91,7 @@ texts_none (action.Judged how ∷ kept) all = absurd all.0
 
 -- ---- a unit on an accepted link dials nothing
 
--- so many are dialled before it, and behind it; of a call that is judged it is said apart
+-- as many dials are among the actions behind a unit as before it; of a call that is judged nothing is said here
 abbrev SameAtDesk : Desk → UnitFact
 SameAtDesk d (heard.Asked line (call.Judged c) talk) part = Unit {0}
 SameAtDesk d h (Err why) = Unit {0}
@@ -165,7 +165,7 @@ units_same name now link n = record {
   refusal = λ why d talk left is. one_more (action.Close link close.BadUnit) d.work.work.actions refl ∙ is;
 }
 
--- ---- nor does an event for the turn
+-- ---- an event for the turn dials nothing
 
 reply_same : (line : Option Line) (answer : Reply) (work : Work) → dials_in (reply_if line answer work).actions ≡ dials_in work.actions
 reply_same None answer work = refl
@@ -239,10 +239,10 @@ hears_same dialling.Nothing link piece turning = refl
 hears_same (dialling.Waits turn frames) link piece turning = refl
 hears_same (dialling.On number said) link piece turning = hears_if (number == link) number said piece turning
 
--- ---- nor does any event
+-- ---- no event dials anything
 
--- so many are dialled by that part of a step
-abbrev PartDials : ℕ → TrustPart → Type 0
+-- that many dials are among the actions of the part of a step
+abbrev PartDials : (n : ℕ) (part : TrustPart) → Type 0
 PartDials n (Err why) = Unit {0}
 PartDials n (Ok part) = dials_in part.value.parts.work.work.actions ≡ n
 
@@ -303,8 +303,8 @@ event_dials event.Stop name now table parts left = refl
 
 -- ---- the next turn
 
--- nothing more is dialled, and the link of the turn is as far as before; or none was out, one more is dialled, and its
--- dial waits
+-- nothing more is dialled, and the turn's dial or link is as far as before; or there was neither, one more is dialled,
+-- and that dial waits
 abbrev DialledBy : Parts → List Action → Dialling → Type 0
 DialledBy before actions how =
     ((dials_in actions ≡ dials_in before.work.work.actions) × (how ≡ before.dialling))

@@ -46,7 +46,8 @@ use Rattle.wire_base.proofs.ListLaws.{got_nothing, some_is}
 
 -- ---- what is known
 
--- one dial of the controller is out at most, and a turn waits for it then; of one that stopped nothing is known
+-- one dial of the controller is out at most, and a turn waits for it then; of a controller that stopped nothing is
+-- known
 abbrev OutIf : ℕ → Option EndId → Given → List WaitingDial → Option Running → Trusting → Type 0
 OutIf at d rest dials None t = Unit {0}
 OutIf at d rest dials (Some running) t =
@@ -59,7 +60,7 @@ record TrustTurn (at : ℕ) (d : Option EndId) (rest : Given) (dials : List Wait
 abbrev TrustsHold : DialFact
 TrustsHold d rest plans ends dials chances given turns = (at : ℕ) (c : ControllerState) → slice_get ends.controllers at ≡ Some c → TrustTurn at d rest dials c
 
--- ---- of one that takes no step
+-- ---- a controller that takes no step
 
 fewer_out : (at : ℕ) (d later : Option EndId) (rest more : Given) (dials waiting : List WaitingDial) (r : Option Running) (t : Trusting) →
     dials_out (Controller at) later more waiting ≤ dials_out (Controller at) d rest dials → OutIf at d rest dials r t → OutIf at later more waiting r t
@@ -71,7 +72,7 @@ fewer : (at : ℕ) (d later : Option EndId) (rest more : Given) (dials waiting :
 fewer at d later rest more dials waiting c few old =
     record { one = old.one; out = fewer_out at d later rest more dials waiting c.running c.trusting few old.out }
 
--- nothing that another end gives counts
+-- what another end gives counts nothing for a controller
 others_given : (at : ℕ) (d later : Option EndId) (rest : Given) (dials : List WaitingDial) (end : EndId) (actions : List Action) (c : ControllerState) →
     answered_dials (Controller at) later ≤ answered_dials (Controller at) d → same_end end (Controller at) ≡ false → TrustTurn at d rest dials c →
     TrustTurn at later (given_by end actions ++ rest) dials c
@@ -79,9 +80,9 @@ others_given at d later rest dials end actions c less other old =
     fewer at d later rest (given_by end actions ++ rest) dials dials c
     (omega (arith, less, given_append (Controller at) (given_by end actions) rest, given_other (Controller at) end actions other)) old
 
--- ---- of one that takes a step
+-- ---- a controller that takes a step
 
--- as many dials are out as it makes in the step, where none was before
+-- as many dials of a controller are out as it makes in the step, where none was before
 made_out : (at : ℕ) (later : Option EndId) (rest : Given) (dials : List WaitingDial) (r : Option Running) (actions : List Action) (t : Trusting) →
     dials_out (Controller at) later rest dials ≡ 0 → OnceUnlessStopped r actions t → OutIf at later (given_by (Controller at) actions ++ rest) dials r t
 made_out at later rest dials None actions t none once = tt
@@ -92,7 +93,7 @@ made_out at later rest dials (Some running) actions t none once =
     omega (arith, given_append (Controller at) (given_by (Controller at) actions) rest, count, none) in
     (omega (arith, all, once.0), (λ some. once.1 (omega (arith, all, some))))
 
--- its dial waits on
+-- the dial of a controller's turn waits on, where the step dials nothing
 waits_on : (at : ℕ) (d : Option EndId) (rest : Given) (dials : List WaitingDial) (before : Trusting) (r : Option Running) (actions : List Action) (t : Trusting) (running : Running) →
     OutIf at d rest dials (Some running) before → StaysUnlessStopped before.dialling r actions t → OutIf at d (given_by (Controller at) actions ++ rest) dials r t
 waits_on at d rest dials before None actions t running old stays = tt
@@ -125,7 +126,7 @@ running_step running at c what now left d later rest dials answers old =
           made_out at later rest dials step.state.running actions step.state.trusting (omega (arith, one, none, old.0)) (dials_once c what now left)
     ]
 
--- one that had stopped does nothing
+-- what is known of a controller's dials stays through its step; a controller that had stopped does nothing
 stopped_step : (r : Option Running) (at : ℕ) (c : ControllerState) (what : Event) (now : ℕ) (left : List (List ℕ)) (d later : Option EndId) (rest : Given) (dials : List WaitingDial) → c.running ≡ r →
     Answers (Controller at) what d later rest → OutIf at d rest dials r c.trusting →
     let step = step_of c what now left in OutIf at later (given_by (Controller at) (actions_by step.answer) ++ rest) dials step.state.running step.state.trusting
@@ -192,7 +193,7 @@ forgets_hold : (end : EndId) (s : State) (turns : List ChannelTurn) → AtState 
 forgets_hold end s turns holds at c there =
     fewer at None None [] [] s.dials (filter (is_of_other end) s.dials) c (omega (arith, forgotten_few (Controller at) end s.dials)) (holds at c there)
 
--- none is out at a controller that is made anew, of which no dial waits
+-- no turn is out at a controller that is made anew
 fresh_one : (hands_on : Bool) (table : AccountTable) (name : List ℕ) → OneIsOut (fresh_controller hands_on false table name).trusting
 fresh_one true table name = one_turn_out.first table name
 fresh_one false table name = record { outs = refl; inside = λ out. absurd (let x = out in cc) }

@@ -43,7 +43,7 @@ never_waits what = record {
       dial_turns (λ how. IsWaiting how → ⊥) (cut_stream (said.rest ++ piece)) number said.talk w left (λ rest later. λ waits. waits) (λ waits. waits);
 }
 
--- nor where its answer came
+-- no turn waits behind an event that answers its dial
 answer_not : (what : Event) (how : Dialling) (w : Work) (left : List (List ℕ)) → (IsNoAnswer what → ⊥) → PartHolds Never (by_event what how w left)
 answer_not (event.Opened link) how w left none = absurd (none tt)
 answer_not (event.Bytes link piece) how w left none = absurd (none tt)

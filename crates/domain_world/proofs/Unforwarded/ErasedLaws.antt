@@ -46,7 +46,7 @@ use Rattle.world_moves.proofs.PlainLaws.{controller_plain, of_found}
 use Rattle.world_moves.proofs.StateFrameLaws.{HoldsActing, HoldsMoving, StateFact, actions_so, closed_so, hears_so, move_so, pieces_so}
 use Rattle.domain_world.proofs.Frames.AnyStepLaws.{any_rests}
 
--- ---- what is left out
+-- ---- what is left out of moves
 
 abbrev pub erased_acted : Acted → Acted
 erased_acted a = record { state = erased a.state; given = a.given }
@@ -64,7 +64,7 @@ erased_stepped step = record step { state = erased_controller step.state }
 abbrev pub AreStill : List ControllerState → Type 0
 AreStill controllers = (at : ℕ) (c : ControllerState) → slice_get controllers at ≡ Some c → NoneIsAsked c.trusting
 
--- its controllers can't seal, and are made so anew
+-- the controllers of a world can't seal, and are made anew as controllers that can't
 abbrev pub IsStill : State → Type 0
 IsStill s = (s.seals ≡ false) × AreStill s.ends.controllers
 
@@ -180,7 +180,7 @@ module _ (c : ControllerState) (what : Event) (now : ℕ) (left : List (List ℕ
     is : trust_step_of (erased_controller c) what now left ≡ erased_stepped Taken
     still : NoneIsAsked Taken.state.trusting
 
-  -- it is that of one that asks nobody
+  -- the step is that of a controller that asks nobody
   step_same : StepsHere c what now left → told_trusts (actions_by Taken.answer) ≡ 0 → 1 ≤ length Taken.left → Taken ≡ step_of c what now left
   step_same (inl same) told some = same
   step_same (inr (inl some_told)) told some =
@@ -235,7 +235,7 @@ steps_plainly ends at what now chances still =
     controller_plain (slice_get ends.controllers at) at what now ends chances
     (of_found CantSeal ends.controllers at (slice_get ends.controllers at) refl (λ c is. (still at c is).unsealing))
 
--- nor can one that asks nobody
+-- a controller that asks nobody can't seal, so its step is the plain one
 erased_plainly : (found : Option ControllerState) (at : ℕ) (what : Event) (now : ℕ) (ends : EndStates) (chances : Drawing) →
     controller_step (option_map erased_controller found) at what now ends chances ≡ plain_controller_step (option_map erased_controller found) at what now ends chances
 erased_plainly None at what now ends chances = refl
@@ -457,7 +457,7 @@ stranger_by_same : (end : Option EndId) (s : State) → IsStill s → IsFine (st
 stranger_by_same None s still fine = none_done s still
 stranger_by_same (Some end) s still fine = open_same (Stranger end) s still fine
 
--- as many ends are there
+-- as many controllers are there
 pub as_many : (ends : EndStates) → length (erased_ends ends).controllers ≡ length ends.controllers
 as_many ends = length-map ends.controllers erased_controller
 

@@ -85,7 +85,7 @@ pub record IsAnsweredIn (past : Past) (message : MessageTaken) (unit : ℕ) : Ty
   pub call : message.call ≡ Some request
   pub controller : HasController (slice_get past.plan.members message.member) past.world.state.ends channel.controller
 
--- where there was no clash, so was each unit that was taken as the answer of a message
+-- where there was no clash, `IsAnsweredIn` holds of each unit that was taken as the answer of a message
 abbrev pub AnswersAreToCalls : Past → Type 0
 AnswersAreToCalls past =
     past.book.clash ≡ false → AllByRecursion (λ (message : MessageTaken). (unit : ℕ) → message.reply ≡ Some unit → IsAnsweredIn past message unit)
@@ -148,7 +148,7 @@ KeysAreFound past =
     info.key ≡ base_key_of made.plan.hash (info_asked message).user (info_asked message).domain (info_asked message).nt →
     key_in info message.logon ≡ made.key) past.book.made) past.book.challenges) past.book.messages
 
--- ---- all of it
+-- ---- all that is known of answers
 
 pub record AnswersAreHeard (past : Past) : Type 0 where
   pub passes : PassesAreUnclashed past

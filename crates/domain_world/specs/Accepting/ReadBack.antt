@@ -79,7 +79,7 @@ TurnsLetIn past =
     past.book.clash ≡ false → AllByRecursion (λ (told : OutcomeTold). is_in told.outcome ≡ true →
     OneOf (λ (message : MessageTaken). IsLetInInTurn past told message) past.book.messages) past.book.told
 
--- answers are taken in turn, those of messages among them; their outcomes are told, and who is let in is so by one
+-- answers are taken in turn, those of messages among them; their outcomes are told, and who is let in is let in by one
 pub record TurnsAreHeard (past : Past) : Type 0 where
   pub taken : AnswersAreTaken past
   pub answered : MessagesAreAnswered past

@@ -71,8 +71,8 @@ HandsOnByKind past =
     AllByRecursion (λ (j : Judging). j.how ≡ Some judged.Forwarded → OneOf (IsHandedOnBy j) past.book.accepted) past.book.judged
 
 -- The channel that a controller keeps for a computer is that of the opening which it accepted last for it, and has the
--- type that this opening named. So has each channel on which a call was checked. A call that was handed on passed on a
--- channel whose opening named a workstation's or a backup controller's type.
+-- type that this opening named. Each channel on which a call was checked has the type that an opening of it named. A
+-- call that was handed on passed on a channel whose opening named a workstation's or a backup controller's type.
 pub record KindsFollowOpenings (past : Past) : Type 0 where
   pub kept : KeptAreAsOpened past
   pub checked : AllByRecursion (IsCheckedAsOpened past.book.accepted) past.book.judged
@@ -96,7 +96,7 @@ pub record AskersNameTheirKind (past : Past) : Type 0 where
   pub controllers : (at : ℕ) (controller : ControllerState) → slice_get past.world.state.ends.controllers at ≡ Some controller →
       AllByRecursion (λ (asks : Requester). asks.caller.kind ≡ trusted_domain_channel) controller.trusting.queues.requesters
 
--- if the opening came in a unit of the bag, it names that type
+-- if the opening came in a unit of the bag, it names the type of who sent the unit (`kind_asked`)
 abbrev pub IsOfItsKind : List BagUnit → ChannelAccepted → Type 0
 IsOfItsKind bag one =
     (n : ℕ) (unit : BagUnit) → one.source ≡ InUnit n → slice_get bag n ≡ Some unit → kind_asked unit.kind ≡ Some one.kind
@@ -115,7 +115,7 @@ KeptHaveKindsAsked past =
 
 -- ---- a controller's call is handed on no further
 
--- a unit that was made as a call
+-- the unit of that number was made as a call
 pub record IsMadeAsCall (past : Past) (n : ℕ) : Type 0 where
   pub sent : Sent
   pub there : slice_get past.book.sent n ≡ Some sent
@@ -129,7 +129,7 @@ abbrev pub IsPassedAsCall : Past → Judging → Type 0
 IsPassedAsCall past j =
     (n : ℕ) (channel : ChannelIdentity) → j.source ≡ InUnit n → passed_channel j ≡ Some channel → IsMadeAsCall past n
 
--- without a clash
+-- Without a clash what passed on a channel in a unit of the bag was made as a call.
 abbrev pub PassesAreCalls : Past → Type 0
 PassesAreCalls past = past.book.clash ≡ false → AllByRecursion (IsPassedAsCall past) past.book.judged
 

@@ -52,7 +52,7 @@ pub record IsMarkedAsOpened (past : Past) (one : ChannelAccepted) (n : ℕ) : Ty
 abbrev pub OpeningsAreMarked : Past → Type 0
 OpeningsAreMarked past = AllByRecursion (λ (one : ChannelAccepted). (n : ℕ) → one.source ≡ InUnit n → IsMarkedAsOpened past one n) past.book.accepted
 
--- The unit `request` was made as the opening of the channel, with that number. It was accepted after so many moves, and
+-- The unit `request` was made as the opening of the channel, with that number. It was accepted after `moves` moves, and
 -- the unit `reply` carries the answer.
 pub record AnswersOpening (past : Past) (channel : ChannelIdentity) (number request reply moves : ℕ) : Type 0 where
   pub sent : Sent

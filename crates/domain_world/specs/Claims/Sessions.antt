@@ -31,7 +31,7 @@ abbrev pub restart_of : Move → State → Option EndId
 restart_of (move.Restart number) s = end_by (chosen_place number (count_of s.ends)) s
 restart_of _ s = None
 
--- A controller was made anew, by the last of so many moves.
+-- A controller was made anew, by the last of `moves` moves.
 pub record ControllerRenewed : Type 0 where
   pub moves : ℕ
   pub controller : ℕ
@@ -82,11 +82,11 @@ abbrev pub since_if : (is_one : Bool) → Judging → List Session → List Sess
 since_if false j before = before
 since_if true j before = sessions_behind j
 
--- that controller judged the call, after so many moves or more
+-- that controller judged the call, after `start` moves or more
 abbrev pub is_since : (controller start : ℕ) → Judging → Bool
 is_since controller start j = (j.controller == controller) && nat_le start j.at
 
--- the sessions of that controller behind these judged calls, the newest first, where it was started after so many moves
+-- the sessions of that controller behind these judged calls, the newest first, where it was started after `start` moves
 abbrev pub sessions_since : (controller start : ℕ) → List Judging → List Session
 sessions_since controller start [] = []
 sessions_since controller start (j ∷ earlier) = since_if (is_since controller start j) j (sessions_since controller start earlier)

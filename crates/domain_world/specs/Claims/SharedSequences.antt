@@ -40,8 +40,9 @@ pub record HasOneTurnOut (s : State) (member : ℕ) (running : MemberRunning) : 
   pub few : length (dials_of (Member member) s.dials) ≤ 1
   pub waits : 1 ≤ length (dials_of (Member member) s.dials) → IsWaiting running.dialling
 
--- The same of a controller, over all its trusts: a turn is out exactly where the dial of the turn waits or its link is
--- open, and then of that trust alone.
+-- At a controller, over all its trusts, a turn is out exactly where the dial of a turn waits or its link is open, and
+-- then at one trust alone. One dial of the controller waits at most, which is that of its turn: no link of a turn is
+-- open then.
 pub record HasOneTrustTurnOut (s : State) (controller : ℕ) (c : ControllerState) : Type 0 where
   pub one : OneIsOut c.trusting
   pub few : length (dials_of (Controller controller) s.dials) ≤ 1

@@ -45,6 +45,6 @@ pub record IsToldAs (plan : Plan) (j : Judging) (channel : SecureChannelState) :
 abbrev pub IsToldRightly : Plan → Judging → Type 0
 IsToldRightly plan j = (channel : SecureChannelState) → j.checks ≡ Some channel → has_passed j.how ≡ true → IsToldAs plan j channel
 
--- each call that is written down as judged was told so, where it passed
+-- each call that is written down as judged was told as `IsToldAs` says, where it passed
 abbrev pub StatusesAreTold : Past → Type 0
 StatusesAreTold past = AllByRecursion (IsToldRightly past.plan) past.book.judged

@@ -34,7 +34,7 @@ IsReplyIn plan channel call request unit bytes j =
     (j.reply ≡ Some unit) × (IsReplyOfCall channel call request j bytes ⊎ (HandsOn plan × IsReplyOfUnasked channel call request j bytes))
 
 -- where the unit of that number is marked as a reply, one of the calls that were judged has its reply there, and these
--- bytes are that reply; or one that was handed on is answered there
+-- bytes are that reply; or a call that was handed on is answered there
 abbrev pub IsReplyOfAny : Plan → List Judging → ℕ → List ℕ → Mark → Type 0
 IsReplyOfAny plan judgings number bytes Plain = Unit {0}
 IsReplyOfAny plan judgings number bytes (Opening channel call) = Unit {0}
@@ -45,7 +45,7 @@ IsReplyOfAny plan judgings number bytes (ReplyTo channel call request) =
 
 -- Replies: each unit of the bag that is marked as a reply carries what its controller judged. One of the calls that
 -- were judged came in the unit that the mark names, passed on its channel, had its number and has its reply in this
--- unit; and its plain form is that reply. Or that call was handed on. What the reply to such a one carries isn't said.
+-- unit; and its plain form is that reply. Or the call was handed on: what the reply to such a call carries isn't said.
 abbrev pub RepliesAreOfTheirCalls : Past → Type 0
 RepliesAreOfTheirCalls past =
     (number : ℕ) (unit : BagUnit) (sent : Sent) →

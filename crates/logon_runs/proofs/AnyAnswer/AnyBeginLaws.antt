@@ -75,7 +75,7 @@ module _ (plan : Plan) (s : State) (rest : AtRest plan s) (client member control
   abbrev coming : Arrival
   coming = coming_from plan s rest client member controller three account machine
 
-  -- its name is its own, by its plan
+  -- the member's name is its own, by its plan
   named_so : IsOwn plan coming → HasOwnName plan member work controller
   named_so is = subst (λ (one : MemberPlan). HasOwnName plan member one controller) (some_is is.member work (sym is.planned ∙ three.is_member_plan)) is.named
 
@@ -92,7 +92,7 @@ module _ (plan : Plan) (s : State) (rest : AtRest plan s) (client member control
         in_step = there.in_step;
       }
 
-  -- its controller knows it
+  -- the controller knows the member's computer
   pub knows_computer : HasOwnComputer plan member work controller → KnowsComputer coming
   knows_computer is_own =
       let same : is_own.table ≡ three.table = some_is _ _ (sym is_own.is_table ∙ three.is_table) in
@@ -106,7 +106,7 @@ module _ (plan : Plan) (s : State) (rest : AtRest plan s) (client member control
         found = λ one other. computers_are_known.machine desk.table work one other later.now later.found kind (ap (λ (a : Account). a.disabled) later.same ∙ is_own.enabled);
       }
 
-  -- it is the one by which it asks, where no channel stands
+  -- the secret that is tried is the one by which the member asks, where no channel stands
   tried_now : coming.meeting.how ≡ standing.Nothing → tried_of coming.meeting.plan.secrets ≡ coming.meeting.caller.secret
   tried_now none =
       let mr : MemberRests plan s member work = rest.members member work three.is_member_plan in

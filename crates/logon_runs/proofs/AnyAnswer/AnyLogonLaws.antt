@@ -23,8 +23,8 @@ use Rattle.logon_runs.proofs.AnyAnswer.UnreachedLaws.{unreached_rests}
 
 -- ---- an end that an address reaches is there
 
--- the end is one of so many controllers, members and clients
-IsWithin : ℕ → ℕ → ℕ → Option EndId → Type 0
+-- the end is one of as many controllers, members and clients as are said
+IsWithin : (controllers members clients : ℕ) → Option EndId → Type 0
 IsWithin controllers members clients None = Unit {0}
 IsWithin controllers members clients (Some (Controller at)) = at < controllers
 IsWithin controllers members clients (Some (Member at)) = at < members

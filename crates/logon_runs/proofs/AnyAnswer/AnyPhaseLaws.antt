@@ -108,7 +108,7 @@ module _ (plan : Plan) (p : Arrival) (s : State) where
   any_waits (Judged a who v o c timestamp accounts answer) left moment shows dials units = one_waits (waiting s.bag) _ [] shows.units units
   any_waits (Away phase) left moment shows dials units = away_waits phase left moment shows units
 
-  -- ---- once it is over
+  -- ---- a logon that is over
 
   done_at : (after : State) (at : IsDone plan p s) (moment : ℕ) →
       Shows after (rest_scene (settled_in p at.settled) (client_ended p.meeting.task at.outcome) at.settled.links at.left moment []) → IsDone plan p after × (after.chances.left ≡ s.chances.left)

@@ -198,7 +198,7 @@ module _ (plan : Plan) (p : Arrival) (s : State) where
       | inr set ↦ inr (fits.there, subst (λ (t : AccountTable). IsSetAt p.meeting.caller t accounts) fits.planned.1 set)
     ]
 
-    -- it is taken: the member keeps that secret alone, and the logon's own turn is dialled
+    -- the new secret is taken: the member keeps it alone, and the logon's own turn is dialled
     set_taken_on : (later : SecureChannelState) → judge_set answer how_set ≡ Ok later → GoesTo plan p NotYet s (onward s).state
     set_taken_on later judged =
         let stamp : ℕ = timestamp_of moment in
@@ -230,7 +230,7 @@ module _ (plan : Plan) (p : Arrival) (s : State) where
         (between_still set_out accounts (turns_have_links.between (own p) set_before how_set fits.turning.joined_so)) fits.turning.next_below fits.goes refl judged
         (ap (λ (n : Option Next). record { current = v.secrets.current; next = n }) next) shows))
 
-    -- it is dropped: so it isn't where the name is the member's own
+    -- the new secret is dropped, which doesn't happen where the name is the member's own
     set_dropped_on : (cause : DropCause) → judge_set answer how_set ≡ Err cause → GoesTo plan p NotYet s (onward s).state
     set_dropped_on cause judged =
         let secrets : SecretsState = secrets_dropped (is_denied cause) v.secrets in

@@ -177,7 +177,7 @@ module _ (plan : Plan) (p : Arrival) (s : State) (able : IsAble plan p) (heard :
         draws = none_up_to (suc (length moves)) now.chances.left (moved_by moves (onward now).state).chances.left settled.draws;
       }
 
-  -- where it is done already
+  -- a move where the logon is done already
   over_goes : (now : State) (what : Move) → IsStepOn what → IsDone plan p now → IsOnward plan p now (act now what).state
   over_goes now what steps over = record {
     few = none_drawn now.chances.left (act now what).state.chances.left (any_phases_go_on.rests_draws plan p now what steps over);

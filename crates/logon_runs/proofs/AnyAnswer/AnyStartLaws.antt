@@ -57,7 +57,7 @@ any_seen p s (Judged a who v o c timestamp accounts answer) left moment shows = 
 any_seen p s (Away phase) left moment shows = away_seen p s phase left moment shows
 
 module _ (plan : Plan) (p : Arrival) (s : State) where
-  -- these challenges were drawn
+  -- a phase in which the challenges `front` were drawn
   pub leads_less : (after : State) (phase : AnyPhase p) (front left : List (List ℕ)) (moment : ℕ) → length front ≤ 3 → s.chances.left ≡ front ++ left → MayFit plan p phase →
       Shows after (any_scene p phase left moment) → GoesTo plan p (progress_in phase) s after
   leads_less after phase front left moment few are fits shows = record {

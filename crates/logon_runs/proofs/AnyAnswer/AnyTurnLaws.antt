@@ -186,7 +186,7 @@ module _ (plan : Plan) (p : Arrival) (s : State) where
         in_step = calls_are_answered.in_step p.meeting.caller client server machine secret;
       }
 
-  -- it has moved, at both ends
+  -- a logon moves the channel on at both ends, which stay in step
   third_kept : (v : TurnAt) (now timestamp : ℕ) (o : SecureChannelState) (info : NetworkInfo) (left : List (List ℕ))
       (told : ToldLogon v.table p.name v.computers (length v.links) now v.next timestamp p.meeting.caller o info left) → v.next < 2 ^ 32 →
       IsTurnCall (logon_call p.meeting.caller o timestamp info) → KeepsInStep p v.computers o → KeepsInStep p told.later (after_return true (after_call o timestamp))
@@ -416,7 +416,7 @@ module _ (plan : Plan) (p : Arrival) (s : State) where
       (turns_are_seen.half s out (after v.next) v.next client server v.computers left moment (turns_have_links.between (own p) t standing.Nothing turning.joined_so)
       turning.next_below refl (calls_can_go.challenged client server block) shows))
 
-  -- what is left where the turn ends, with these secrets
+  -- what is left where the turn ends, the member keeping `secrets`
   abbrev pub left_with : SecretsState → (a : ClientAnswer) → WhoAsked p a → TurnAt → Aim → Standing → AccountTable → Settled
   left_with secrets a who v aim how accounts =
       record { secrets = secrets; how = how; number = after v.next; links = (turn_on p a who.later (who.sent ∷ []) v aim).links; table = accounts; computers = v.computers }
@@ -439,7 +439,7 @@ module _ (plan : Plan) (p : Arrival) (s : State) where
       stands = stands;
     }
 
-  -- where it is dropped, and the channel with it
+  -- what is left where the logon is dropped, and the channel with it
   pub dropped_left : (secrets : SecretsState) (a : ClientAnswer) (who : WhoAsked p a) (v : TurnAt) (aim : Aim) (before accounts : AccountTable) → IsTurningBy plan p a v → IsNextSecret secrets.next →
       MaySet plan p before → DifferInCounts before accounts → InRangeTable accounts → (IsOwn plan p → FitsStill p accounts secrets) →
       IsLeft plan p (left_with secrets a who v aim standing.Nothing accounts)

@@ -29,7 +29,7 @@ pub record IsNamedIn (info : Option SamInfo) (sam : SamInfo) : Type 0 where
   pub is : info ≡ Some told
   pub name : name_in sam ≡ name_in told
 
--- it is dropped, or answers the logon, and the channel's state is that after the return
+-- the reply to a logon is dropped, or answers it, and the channel's state is that after the return
 abbrev pub IsLogonJudged : Option SamInfo → SecureChannelState → Judgement → Type 0
 IsLogonJudged info o (judgement.Half client server) = ⊥
 IsLogonJudged info o (judgement.Opened state) = ⊥

@@ -138,7 +138,7 @@ module _ (plan : Plan) (s : State) (rest : AtRest plan s) (client member control
   abbrev coming : Arrival
   coming = coming_from plan s rest client member controller three account machine
 
-  -- its own controller
+  -- the logon's own controller rests again
   controller_rests : ControllerRests plan after controller three.table
   controller_rests =
       let cr : ControllerRests plan s controller three.table = rest.controllers controller three.table three.is_table in
@@ -174,7 +174,7 @@ module _ (plan : Plan) (s : State) (rest : AtRest plan s) (client member control
         rests = others.controllers at apart ∙ cr.rests;
       }
 
-  -- its own member
+  -- the logon's own member is in step
   member_in_step : (at : ℕ) (o : SecureChannelState) → at ≡ controller → KeepsInStep coming over.settled.computers o →
       IsInStepAt after at three.member_plan o
   member_in_step at o same step_so = subst (λ (n : ℕ). IsInStepAt after n three.member_plan o) (sym same)
@@ -205,7 +205,7 @@ module _ (plan : Plan) (s : State) (rest : AtRest plan s) (client member control
   member_well (standing.Open o) stands = λ at is_own.
       member_open at o is_own reaches (λ named. stands (record { member = three.member_plan; planned = three.is_member_plan; named = named }))
 
-  -- its account has the secret that it tries
+  -- the member's account has the secret that it tries
   member_fits : (k : ℕ) → HasOwnName plan member three.member_plan k → IsReachedOrNot plan member three.member_plan controller → FitsSecretAt after k three.member_plan over.settled.secrets
   member_fits k is_own (inl there) =
       let same : k ≡ controller = controller_same k controller (sym is_own.reaches ∙ there) in
@@ -237,7 +237,7 @@ module _ (plan : Plan) (s : State) (rest : AtRest plan s) (client member control
     fits = λ k planned is_table is_own. member_fits k is_own reaches;
   }
 
-  -- another member's channel
+  -- another member's channel stays in step
   still_in_step : (at : ℕ) (peer : MemberPlan) (o : SecureChannelState) → at ≢ member → (k : ℕ) → HasOwnName plan at peer k → IsInStepAt s k peer o → (k ≡ controller) ⊎ (k ≢ controller) →
       IsInStepAt after k peer o
   still_in_step at peer o apart k is_own old (inl same) =
@@ -271,7 +271,7 @@ module _ (plan : Plan) (s : State) (rest : AtRest plan s) (client member control
   stands_still at peer (standing.Half one other) apart well = absurd well
   stands_still at peer (standing.Open o) apart well = λ k is_own. still_in_step at peer o apart k is_own (well k is_own) (same_or_not k controller)
 
-  -- another member's account
+  -- another member's account is as it was
   still_before : (peer : MemberPlan) (at k : ℕ) → at ≢ member → k ≡ controller → HasOwnName plan at peer k → MaySet plan coming over.fits.before →
       channel_account over.fits.before peer.computer ≡ channel_account coming.table peer.computer
   still_before peer at k apart same is_own (inl is) = ap (λ (t : AccountTable). channel_account t peer.computer) is

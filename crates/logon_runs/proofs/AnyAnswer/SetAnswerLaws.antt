@@ -98,7 +98,7 @@ module _ (table : AccountTable) (name : List ℕ) (computers : Computers) (link 
   abbrev returned_by : (key seed : List ℕ) → ℕ → SetReply
   returned_by key seed stamp = record { returned = record { credential = return_of key seed stamp; timestamp = 0 }; status = 0 }
 
-  -- it takes the secret, where both ends were in step
+  -- the reply takes the secret, where both ends were in step
   taken_by : (next : Next) (c : SecureChannelState) → lookup same_name caller.computer computers.channels ≡ Some c → IsInStep o c →
       returned_by (key_of_channel next.channel) next.channel.seed next.given.timestamp ≡ set_taken o timestamp
   taken_by next c there step =

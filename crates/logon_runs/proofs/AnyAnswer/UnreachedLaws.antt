@@ -42,7 +42,7 @@ use Rattle.wire_base.proofs.ListLaws.{some_is}
 abbrev pub unanswered : Arrival → List (List ℕ) → ℕ → Scene
 unanswered p left moment = rest_scene (with_its_controller p p.meeting) (client_ended p.meeting.task (NoAnswer no_answer.DialFailed)) p.meeting.links left moment []
 
--- its dial waits, or nobody answered it; these challenges are left
+-- a client's dial waits, or nobody answered it; the challenges `left` are left
 record IsCalling (p : Arrival) (left : List (List ℕ)) (s now : State) : Type 0 where
   moment : ℕ
   others : OthersStay (three_in p) s now

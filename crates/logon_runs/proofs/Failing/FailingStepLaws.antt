@@ -107,7 +107,7 @@ pub dropped_one : (denied : Bool) (secrets : SecretsState) → secrets.next ≡ 
 dropped_one false secrets one = refl
 dropped_one true secrets one = ap (λ (next : Option Next). denied_by next secrets) one
 
--- it keeps the next one in any case
+-- a denied opening leaves the next secret
 next_denied : (next : Option Next) (secrets : SecretsState) → secrets.next ≡ next → next_of secrets ≡ next_of (denied_by next secrets)
 next_denied None secrets is = refl
 next_denied (Some n) secrets is = ap (option_map (λ (one : Next). one.secret)) is

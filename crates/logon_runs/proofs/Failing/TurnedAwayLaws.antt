@@ -362,7 +362,7 @@ away_left p (Faulted a later e status) left moment = refl
 left_there : (p : Arrival) (s : State) (at : IsAway p s) → s.chances.left ≡ at.left
 left_there p s at = at.shows.left ∙ away_left p at.phase at.left at.moment
 
--- what is left where a move leads
+-- the challenges that are left where a move leads
 after_left : (p : Arrival) (s : State) → IsAway p s ⊎ HasEnded p s → List (List ℕ)
 after_left p s (inl at) = at.left
 after_left p s (inr over) = over.left

@@ -74,7 +74,7 @@ controller_of hands_on seals (first ∷ tables) [] at table name is_table is_nam
 controller_of hands_on seals (first ∷ tables) (other ∷ names) zero table name is_table is_name = cc
 controller_of hands_on seals (first ∷ tables) (other ∷ names) (suc at) table name is_table is_name = controller_of hands_on seals tables names at table name is_table is_name
 
--- and such that it asks nobody, where it can't seal
+-- a controller of the first world asks nobody where it can't seal and trusts nobody
 pub got_controller : (hands_on seals : Bool) (tables : List AccountTable) (names : List (List ℕ)) (at : ℕ) (table : AccountTable) (name : List ℕ) → slice_get tables at ≡ Some table →
     slice_get names at ≡ Some name → seals ≡ false → TrustsNobody hands_on table → slice_get (first_controllers hands_on seals tables names) at ≡ Some (first_state table name)
 got_controller hands_on seals tables names at table name is_table is_name unsealed none =

@@ -35,7 +35,7 @@ use Rattle.logon_runs.proofs.Scenes.SceneLaws.{first_comes}
 use Rattle.logon_runs.proofs.Scenes.TurningSceneLaws.{lands_closing}
 use Rattle.logon_runs.proofs.Scenes.WaitingLaws.{alone_after, plain_after, waiting_comes}
 
--- it closes its client's link, and then does other things
+-- the member closes its client's link, and then does other things
 pub member_shuts : (s : State) (v : Scene) (unit : BagUnit) (later : List BagUnit) (after : MemberState) (client : ClientState) (left : List (List ℕ)) (link : ℕ) (cause : CloseCause)
     (actions : List Action) → Shows s v → HasFirst v unit later (Member v.at_member) → ClosesTo v (Member v.at_member) (Client v.at_client) link → AllByRecursion IsNoClose actions →
     member_step_of v.member (event.Bytes unit.link unit.bytes) v.moment v.left ≡ whole_step v.left left (action.Close link cause ∷ actions) after →
@@ -103,7 +103,7 @@ lands_closing_two s v unit later end one other ends ones others left link next a
       moment = shows.moment;
     })
 
--- it closes the link of its turn, tells an outcome, and closes its client's link
+-- the member closes the link of its turn, tells an outcome, and closes its client's link
 pub member_shuts_both : (s : State) (v : Scene) (unit : BagUnit) (later : List BagUnit) (after : MemberState) (client : ClientState) (controller : ControllerState) (left : List (List ℕ)) (link next : ℕ)
     (cause cause_too : CloseCause) (tells : ℕ) (what : Outcome) → Shows s v → HasFirst v unit later (Member v.at_member) → ClosesTo v (Member v.at_member) (Controller v.at_controller) link →
     ClosesTo (shut_in link v) (Member v.at_member) (Client v.at_client) next →

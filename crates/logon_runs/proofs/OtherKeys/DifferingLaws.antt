@@ -70,7 +70,7 @@ record Shuts (served : AtLink → Served) : Type 0 where
   cause : CloseCause
   shuts : (at : AtLink) → served at ≡ shut cause at
 
--- or one unit goes out, and the user stays
+-- a member that is asked sends one unit, and the user stays
 record Replies (task : ClientPlan) (sent : ℕ) (served : AtLink → Served) : Type 0 where
   bytes : List ℕ
   later : LoggedOn
@@ -324,12 +324,12 @@ asks_by level call opnum stub (Some s) sent few below op short has =
 
 -- ---- what a client makes of a reply, on whichever link and whenever
 
--- it has an outcome
+-- a client that hears a reply has an outcome
 record Fails (task : ClientPlan) (heard : ℕ → ℕ → Heard) : Type 0 where
   outcome : ClientOutcome
   fails : (link now : ℕ) → heard link now ≡ client.fails outcome link (client.work_of task now)
 
--- or it asks for its echo
+-- a client that hears a reply asks for its echo
 record Echoes (task : ClientPlan) (sent : ℕ) (heard : ℕ → ℕ → Heard) : Type 0 where
   name : List ℕ
   terms : Terms

@@ -59,7 +59,7 @@ all_going : (p : Arrival) (e : Settled) (left : List (List ℕ)) (s now : State)
 all_going p e left s now [] steps going = going
 all_going p e left s now (what ∷ moves) steps going = all_going p e left s (act now what).state moves steps.1 (going_on p e left s now what steps.0 going.others going.at)
 
--- nothing waits, so it is over
+-- a logon of which nothing waits is over
 over_so : (g : Meeting) (left : List (List ℕ)) (now : State) → GoesOn g left now → waiting now.bag ≡ [] → HasEndedAt g left now
 over_so g left now (inl at) units = absurd (grants_go_on.waits g left now at units)
 over_so g left now (inr over) units = over

@@ -91,7 +91,7 @@ pub granted_replies : (plan : MemberPlan) (caller : Caller) (how : Standing) (o 
 granted_replies plan caller how o info place next number turn now q r sam logon task sent bytes left below reply_is granted is =
     granted_served plan caller how o info place next number turn now q r sam logon task bytes _ left below reply_is granted (is.replies _)
 
--- or it closes the link
+-- the member tells that he is in, and closes the link
 pub granted_shuts : (plan : MemberPlan) (caller : Caller) (how : Standing) (o : SecureChannelState) (info : NetworkInfo) (place next number turn now : ℕ) (q : Question) (r : Reply) (sam : SamInfo) (logon : Logon)
     (task : ClientPlan) (bytes : List ℕ) (left : List (List ℕ)) → number < 2 ^ 32 → IsTurnReply q r → judge q r how caller.secret ≡ judgement.Answer o (verdict.Granted sam) →
     (is : IsShut (let_in task sam logon) bytes) →

@@ -100,7 +100,7 @@ goes_so p s what known ready goes at =
     (λ user arrives. comes_on p s at.phase at.left at.moment known ready at.fits user arrives at.shows)
     (λ more user arrives. ticks_on p s at.phase at.left at.moment more at.fits at.shows) what goes
 
--- ---- once it is over
+-- ---- a logon that is over
 
 -- a logon that is over is over later, at another moment
 over_at : (p : Arrival) (s after : State) (over : IsOver p s) (moment : ℕ) →

@@ -59,7 +59,7 @@ left_of p (Echoed a e talk one other back) left moment = refl
 pub left_seen : (p : Arrival) (s : State) (phase : LogonPhase p) (left : List (List ℕ)) (moment : ℕ) → Shows s (scene_of p phase left moment) → s.chances.left ≡ left
 left_seen p s phase left moment shows = shows.left ∙ left_of p phase left moment
 
--- these were drawn
+-- a phase in which the challenges `front` were drawn
 pub under_less : (p : Arrival) (s after : State) (phase : LogonPhase p) (front left : List (List ℕ)) (moment : ℕ) → length front ≤ 3 → s.chances.left ≡ front ++ left → Fits p phase →
     Shows after (scene_of p phase left moment) → ComesBy p (progress_of phase) s after
 under_less p s after phase front left moment few are fits shows = (

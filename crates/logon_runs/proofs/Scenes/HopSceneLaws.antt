@@ -71,7 +71,7 @@ unequal : (one other : ℕ) → one ≢ other → (one == other) ≡ false
 unequal one other apart = grind (arith, nat_tests)
 
 module _ (h : HopScene) (two : AreTwo h) where
-  -- ---- the two among the ends
+  -- ---- the two controllers among the ends
 
   other_is : (first other : ControllerState) → slice_get (ends_with h first other).controllers h.at_other ≡ Some other
   other_is first other =
@@ -105,7 +105,7 @@ module _ (h : HopScene) (two : AreTwo h) where
       ap (λ (r : Option Route). sent_if r (Controller h.at_first) h.link bytes) across.route
       ∙ ap (λ (b : Bool). record { bytes = bytes; link = h.link; kind = kind.Between; back = b; is_settled = false } ∷ []) (unequal h.at_other h.at_first two.apart)
 
-  -- ---- who hears what is on it
+  -- ---- who hears what is on the link of the turn
 
   heard_over : (bytes : List ℕ) (left : List (List ℕ)) (moment : ℕ) → IsAcross h → ComesAtOnce bytes →
       IsFirst (hop_traffic h h.opened (unit_over h bytes ∷ []) [] left moment) (unit_over h bytes) [] (Controller h.at_other)
@@ -137,7 +137,7 @@ module _ (h : HopScene) (two : AreTwo h) where
     side = ap (λ (b : Bool). hearer_on b (record { route = Between h.at_first h.at_other; dialler = true; acceptor = true })) (unequal h.at_other h.at_first two.apart);
   }
 
-  -- ---- one of the two hears
+  -- ---- one of the two controllers hears
 
   other_hears : (first before after : ControllerState) (what : Event) (moment : ℕ) (left rest : List (List ℕ)) (actions : List Action) → before.trusting.sealing ≡ None →
       trust_step_of before what moment left ≡ whole_step left rest actions after → Hears (Controller h.at_other) what moment (ends_with h first before) (ends_with h first after) left rest actions
@@ -151,7 +151,7 @@ module _ (h : HopScene) (two : AreTwo h) where
       subst (λ (later : EndStates). Hears (Controller h.at_first) what moment (ends_with h before other) later left rest actions) (first_set before other after)
       (traffic_goes_on.controller (ends_with h before other) h.at_first before after what moment left rest actions (first_is before other) plain step)
 
-  -- a unit comes at the other one, which sends one back
+  -- a unit comes at the other controller, which sends one back
   other_moves : (s : State) (first before after : ControllerState) (bytes sent : List ℕ) (left rest : List (List ℕ)) (moment : ℕ) (actions : List Action) → IsAcross h → ComesAtOnce bytes →
       before.trusting.sealing ≡ None → trust_step_of before (event.Bytes h.link bytes) moment left ≡ whole_step left rest actions after → AllByRecursion IsNoClose actions →
       units_sent h.links (Controller h.at_other) actions ≡ unit_home h sent ∷ [] → dials_made (Controller h.at_other) actions ≡ [] →
@@ -163,7 +163,7 @@ module _ (h : HopScene) (two : AreTwo h) where
       (traffic_goes_on.comes s (ends_with h first before) (ends_with h first after) (hop_traffic h h.opened (unit_over h bytes ∷ []) [] left moment) (unit_over h bytes) [] (Controller h.at_other) rest actions
       shows (heard_over bytes left moment across comes) none_close (other_hears first before after (event.Bytes h.link bytes) moment left rest actions plain step)))
 
-  -- a unit comes at the first one, which closes the link, and does something else
+  -- a unit comes at the first controller, which closes the link, and does something else
   first_closes : (s : State) (before after : ControllerState) (bytes : List ℕ) (left : List (List ℕ)) (moment : ℕ) (actions : List Action) → IsAcross h → ComesAtOnce bytes →
       before.trusting.sealing ≡ None → trust_step_of before (event.Bytes h.link bytes) moment left ≡ whole_step left left (action.Close h.link close.CallDone ∷ actions) after →
       AllByRecursion IsNoClose actions →
@@ -203,7 +203,7 @@ module _ (h : HopScene) (two : AreTwo h) where
       (first_closes h two s before (handed_back h.handed how next) bytes left moment actions across comes plain step
       (tt, quiet_back h.handed.call.line (forwarded_reply h.handed.call verdict)) shows)
 
--- both are the same two on the next link
+-- both controllers are the same two on the next link
 two_next : (h : HopScene) (opened : OpenMap) (how : Standing) → AreTwo h → AreTwo (next_hop h opened how)
 two_next h opened how two = record {
   first = two.first;

@@ -28,7 +28,7 @@ pub record HasServers (plan : Plan) : Type 0 where
   pub member_plan : MemberPlan
   pub is_member_plan : slice_get plan.members member ≡ Some member_plan
 
--- at most so many challenges were drawn, the first ones
+-- at most `most` challenges were drawn, the first ones
 pub record DrawsUpTo (most : ℕ) (before after : List (List ℕ)) : Type 0 where
   pub front : List (List ℕ)
   pub few : length front ≤ most

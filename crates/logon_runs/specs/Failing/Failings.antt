@@ -54,12 +54,12 @@ use Rattle.logon_runs.specs.Scenes.LinkScenes.{given_after, IsJoined, its_link, 
 use Rattle.logon_runs.specs.Scenes.Scene.{Shows}
 use Rattle.logon_runs.specs.Scenes.TurnScenes.{IsBetween, TurnScene, turn_scene, unit_back, waiting_scene}
 
--- the member's turn for that logon, whose channel stands so, with these held
+-- the member's turn for that logon, whose channel stands as `how`, with `held` held
 abbrev pub failing_turn : Meeting → ClientPhase → NetworkInfo → List ℕ → Authenticate → List (List ℕ) → AccountTable → List ℕ → Standing → List Route → OpenMap → ℕ → TurnScene
 failing_turn g waits info challenge message held table name how links opened link =
     turn_within g waits info (logon_for g.link g.task challenge message) (asked_talk (bound_for g.task) g.place held) table name how links opened link
 
--- the member's channel rests, and stands so
+-- the member's channel rests, and stands as `how`
 abbrev pub settled_at : Meeting → AccountTable → List ℕ → Computers → Standing → ℕ → List Route → Meeting
 settled_at g table name computers how next links = record (with_controller g table name computers) {
   given = given_after g;

@@ -55,17 +55,17 @@ pub record IsRequest (call opnum : ℕ) (bytes : List ℕ) : Type 0 where
 
 -- ---- who they come from
 
--- a session that wasn't refused anything, and that has sent at most so many units
-abbrev pub HasSent : ℕ → Option SessionState → Type 0
+-- a session that wasn't refused anything, and that has sent at most `most` units
+abbrev pub HasSent : (most : ℕ) → Option SessionState → Type 0
 HasSent most None = Unit {0}
 HasSent most (Some s) = (s.broken ≡ false) × (s.sending.number ≤ most)
 
--- a client's terms, under which it has sent at most so many units
+-- a client's terms, under which it has sent at most `sent` units
 pub record AreTerms (sent : ℕ) (terms : Terms) : Type 0 where
   pub receive : terms.receive ≡ 5840
   pub session : HasSent sent terms.session
 
--- who is let in on the link of that client, once at most so many units were sent to him; his name is a short one
+-- who is let in on the link of that client, once at most `sent` units were sent to him; his name is a short one
 pub record IsLetIn (task : ClientPlan) (sent : ℕ) (on : LoggedOn) : Type 0 where
   pub bound : on.bound ≡ bound_for task
   pub name : length on.name ≤ 129

@@ -69,7 +69,7 @@ pub record HopScene : Type 0 where
   pub opened : OpenMap
   pub link : ℕ
 
--- both are there, and are two; the trust is the first one's, and nobody waits at those who ask at the other
+-- both controllers are there, and are two; the trust is the first one's, and nobody waits at those who ask at the other
 pub record AreTwo (h : HopScene) : Type 0 where
   pub first : ControllerState
   pub is_first : slice_get h.ends.controllers h.at_first ≡ Some first
@@ -79,19 +79,20 @@ pub record AreTwo (h : HopScene) : Type 0 where
   pub trusted : IsTrusted h.handed
   pub nobody : NobodyWaits h.other.requesters
 
--- what the two are now
+-- all ends, with what the two controllers are by now
 abbrev pub ends_with : HopScene → (first other : ControllerState) → EndStates
 ends_with h first other = with_controller_at h.at_other other (with_controller_at h.at_first first h.ends)
 
--- the link of the turn is open between both
+-- the link of the turn is open between both controllers
 pub record IsAcross (h : HopScene) : Type 0 where
   pub route : slice_get h.links h.link ≡ Some (Between h.at_first h.at_other)
   pub opened : lookup same_number h.link h.opened ≡ Some (record { route = Between h.at_first h.at_other; dialler = true; acceptor = true })
 
--- a unit on it, to the other controller and back
+-- a unit on the link of the turn, to the other controller
 abbrev pub unit_over : HopScene → List ℕ → BagUnit
 unit_over h bytes = record { bytes = bytes; link = h.link; kind = kind.Between; back = false; is_settled = false }
 
+-- a unit on the link of the turn, back to the first controller
 abbrev pub unit_home : HopScene → List ℕ → BagUnit
 unit_home h bytes = record { bytes = bytes; link = h.link; kind = kind.Between; back = true; is_settled = false }
 
@@ -100,13 +101,13 @@ unit_home h bytes = record { bytes = bytes; link = h.link; kind = kind.Between; 
 abbrev pub hop_traffic : HopScene → OpenMap → List BagUnit → List WaitingDial → List (List ℕ) → ℕ → Traffic
 hop_traffic h opened units dials left moment = record { links = h.links; opened = opened; units = units; dials = dials; left = left; moment = moment }
 
--- the turn waits for the answer to its bind or call of that number, and this is on its link
-abbrev pub ShowsHop : State → HopScene → (next number : ℕ) → Step → (there : LinkMap) → List BagUnit → List (List ℕ) → (moment : ℕ) → Type 0
+-- the turn waits for the answer to its bind or call of that number, and these units are on its link
+abbrev pub ShowsHop : State → HopScene → (next number : ℕ) → Step → (there : LinkMap) (units : List BagUnit) → List (List ℕ) → (moment : ℕ) → Type 0
 ShowsHop s h next number what there units left moment =
     HasTraffic s (ends_with h (handing_at h.handed h.how next number what (on_turn h.link)) (keeping_at h.other there)) (hop_traffic h h.opened units [] left moment)
 
--- the turn's dial waits; the links that are open then, and the channel's standing
-abbrev pub ShowsHopDial : State → (h : HopScene) → IsTrusted h.handed → OpenMap → Standing → (next number : ℕ) → Step → List (List ℕ) → (moment : ℕ) → Type 0
+-- the turn's dial waits alone, and no unit is under way
+abbrev pub ShowsHopDial : State → (h : HopScene) → IsTrusted h.handed → (opened : OpenMap) (how : Standing) (next number : ℕ) → Step → List (List ℕ) → (moment : ℕ) → Type 0
 ShowsHopDial s h is opened how next number what left moment =
     HasTraffic s (ends_with h (handing_at h.handed how next number what (bind_waits number)) (keeping_at h.other []))
     (hop_traffic h opened [] (record { end = Controller h.at_first; peer = is.entry.address } ∷ []) left moment)
@@ -117,7 +118,7 @@ ShowsBack s h opened how next verdict left moment =
     HasTraffic s (ends_with h (handed_back h.handed how next) (keeping_at h.other []))
     (hop_traffic h opened (units_sent h.links (Controller h.at_first) (answer_of (Some (verdict, h.handed.call)))) [] left moment)
 
--- the turn on the next link
+-- the scene once the turn is on the next link
 abbrev pub next_hop : HopScene → OpenMap → Standing → HopScene
 next_hop h opened how = record h {
   how = how;
@@ -127,7 +128,7 @@ next_hop h opened how = record h {
   link = length h.links;
 }
 
--- the other controller keeps other accounts and computers
+-- the scene where the other controller keeps other accounts and computers
 abbrev pub other_with : AccountTable → Computers → HopScene → HopScene
 other_with table computers h = record h { other = kept_with table computers h.other }
 
@@ -141,14 +142,14 @@ pub record HopTurnsAreSeen : Type 0 where
       IsNewLink (length h.links) h.handed → IsAcross (next_hop h opened how) → ShowsHopDial s h two.trusted opened how next number what left moment →
       ShowsHop (connect s).state (next_hop h opened how) next number what (one_link (length h.links) first_talk)
       (unit_over (next_hop h opened how) (written (bind_of netlogon_syntax number)) ∷ []) left moment
-  -- it is answered, and the call goes out
+  -- the bind is answered, and the call goes out
   pub bound : (s : State) (h : HopScene) (next number : ℕ) (what : Step) (left : List (List ℕ)) (moment : ℕ) → AreTwo h → IsAcross h → number < 2 ^ 32 →
       ShowsHop s h next number what (one_link h.link first_talk) (unit_over h (written (bind_of netlogon_syntax number)) ∷ []) left moment →
       ShowsHop (onward s).state h next number what (turn_link h.link) (unit_home h (written (turn_ack number)) ∷ []) left moment
   pub asks : (s : State) (h : HopScene) (next number : ℕ) (c : Call) (left : List (List ℕ)) (moment : ℕ) → AreTwo h → IsAcross h → number < 2 ^ 32 →
       ShowsHop s h next number (step.Bind c) (turn_link h.link) (unit_home h (written (turn_ack number)) ∷ []) left moment →
       ShowsHop (onward s).state h (after next) next (step.Reply (question_of c)) (turn_link h.link) (unit_over h (bytes_of_call (turn_request next c) 5840) ∷ []) left moment
-  -- the other controller answers it, telling nothing or how it judged, and keeps its accounts or others then
+  -- the other controller answers the call, telling nothing or how it judged, and keeps its accounts or others then
   pub answers : (s : State) (h : HopScene) (next number : ℕ) (what : Step) (c : Call) (r : Reply) (computers : Computers) (left rest : List (List ℕ)) (moment : ℕ) → AreTwo h → IsAcross h → IsTurnCall c →
       trust_step_of (keeping_at h.other (turn_link h.link)) (event.Bytes h.link (bytes_of_call (turn_request number c) 5840)) moment left
       ≡ whole_step left rest (action.Send h.link (reply_bytes number r) ∷ []) (keeping_at (kept_with h.other.table computers h.other) (turn_link h.link)) →
@@ -180,7 +181,7 @@ pub record HopTurnsAreSeen : Type 0 where
       number < 2 ^ 32 → IsTurnReply q r → judge q r h.how h.handed.caller.secret ≡ judgement.Drop cause →
       ShowsHop s h next number (step.Reply q) (turn_link h.link) (unit_home h (reply_bytes number r) ∷ []) left moment →
       ShowsBack (onward s).state h (take_out same_number h.link h.opened) standing.Nothing next (Status no_logon_servers) left moment
-  -- so it does where the dial reaches no controller
+  -- the answer goes back, too, where the dial reaches no controller
   pub failed : (s : State) (h : HopScene) (two : AreTwo h) (opened : OpenMap) (how : Standing) (next number : ℕ) (what : Step) (left : List (List ℕ)) (moment : ℕ) →
       route_to (Controller h.at_first)
       (end_of_peer two.trusted.entry.address (ends_with h (handing_at h.handed how next number what (bind_waits number)) (keeping_at h.other []))) ≡ None →

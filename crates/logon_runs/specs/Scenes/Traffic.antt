@@ -46,8 +46,8 @@ pub record HasTraffic (s : State) (ends : EndStates) (v : Traffic) : Type 0 wher
   pub left : s.chances.left ≡ v.left
   pub moment : s.moment ≡ v.moment
 
--- once an end has acted, with the challenges that are left
-abbrev pub acted_on : EndId → List Action → List (List ℕ) → Traffic → Traffic
+-- what is under way once an end has acted, with the challenges that are left
+abbrev pub acted_on : (end : EndId) (actions : List Action) (left : List (List ℕ)) → Traffic → Traffic
 acted_on end actions left v = record v {
   units = v.units ++ units_sent v.links end actions;
   dials = v.dials ++ dials_made end actions;
@@ -57,11 +57,11 @@ acted_on end actions left v = record v {
 abbrev pub with_units : List BagUnit → Traffic → Traffic
 with_units units v = record v { units = units }
 
--- the link is open no more
+-- what is under way once the link is open no more
 abbrev pub without_link : ℕ → Traffic → Traffic
 without_link link v = record v { opened = take_out same_number link v.opened }
 
--- the first dial waits no more, and there is a new link of that route, open at both sides
+-- what is under way once the first dial waits no more, and there is a new link of that route, open at both sides
 abbrev pub with_route : Route → List WaitingDial → Traffic → Traffic
 with_route route dials v = record v {
   links = v.links ++ route ∷ [];
@@ -86,8 +86,8 @@ pub record IsShutBy (v : Traffic) (end other : EndId) (link : ℕ) : Type 0 wher
   pub found : lookup same_number link v.opened ≡ Some there
   pub side : other_hearer end there ≡ Some other
 
--- what an end makes of what it hears among these ends, at a moment and with the challenges that are left: it leaves
--- those ends and challenges, and does that
+-- what an end makes of what it hears among these ends, at a moment and with the challenges that are left: it leaves the
+-- ends `later` and the challenges `rest`, and does these actions
 abbrev pub Hears : (end : EndId) (what : Event) (moment : ℕ) (ends later : EndStates) (left rest : List (List ℕ)) (actions : List Action) → Type 0
 Hears end what moment ends later left rest actions =
     (s : State) → s.ends ≡ ends → s.moment ≡ moment → s.chances.left ≡ left → hear end what s ≡ after_hearing later rest actions s
@@ -118,7 +118,7 @@ pub record TrafficGoesOn : Type 0 where
       Hears (acceptor_of route) (event.Opened (length v.links)) v.moment ends between v.left v.left [] →
       Hears end (event.Dialled (length v.links)) v.moment between after v.left v.left actions →
       HasTraffic (connect s).state after (acted_on end actions v.left (with_route route dials v))
-  -- or nobody is reached
+  -- the first dial fails where nobody is reached
   pub fails : (s : State) (ends after : EndStates) (v : Traffic) (end : EndId) (peer : List ℕ) (dials : List WaitingDial) (rest : List (List ℕ)) (actions : List Action) →
       HasTraffic s ends v → v.dials ≡ record { end = end; peer = peer } ∷ dials → route_to end (end_of_peer peer ends) ≡ None → AllByRecursion IsNoClose actions →
       Hears end event.DialFailed v.moment ends after v.left rest actions →

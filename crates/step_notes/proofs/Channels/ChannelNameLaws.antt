@@ -77,7 +77,7 @@ use Rattle.step_notes.proofs.Controllers.ComputerLaws.{judged_finds}
 use Rattle.step_notes.proofs.Controllers.KeptNoteLaws.{moved_alike}
 use Rattle.step_notes.proofs.Controllers.OpenedLaws.{opened_is, opening_noted}
 
--- both challenges, as a controller keeps them
+-- a client's and a server's challenge, as a controller keeps them
 abbrev pub pair_of : List ℕ → List ℕ → ChallengePair
 pair_of client server = record { client = client; server = server }
 
@@ -456,7 +456,7 @@ opened_acts (hearing.Drop cause) controller s is = absurd cc
 opened_acts (hearing.Set (set_hearing.Next frames)) controller s is = absurd cc
 opened_acts (hearing.Set (set_hearing.Reply r)) controller s is = absurd (set_unopened (judge_set r s.standing) s is)
 
--- ---- it stands, or goes
+-- ---- a channel stands, or goes
 
 still : (channel : ChannelIdentity) (found : Option ChannelIdentity) → found ≡ Some channel → StandsOrGoes channel found
 still channel found is = subst (λ (f : Option ChannelIdentity). StandsOrGoes channel f) (sym is) refl
@@ -666,7 +666,7 @@ unit_has controller link name now d left channel has =
       unknown = λ line c talk server rest is none other. same_channels d.work.computers _ channel refl has;
       known = λ line c talk server rest is known other. same_channels d.work.computers _ channel refl has;
       denied = λ line c talk status fails none other. same_channels d.work.computers _ channel refl has;
-      -- another channel is put
+      -- an opening that is accepted puts another computer's channel
       accepted = λ line c talk opens other. record {
         state = has.state;
         kept = put_others same_name c.computer channel.computer (channel_for opens.account opens.pair c) d.work.computers.channels IsSameness-same_name
@@ -675,7 +675,7 @@ unit_has controller link name now d left channel has =
             ∙ has.kept;
         is = has.is;
       };
-      -- it may have moved on
+      -- a call that is judged may move the channel on
       judged = λ line c talk after comes other. elim (judged_finds c name now line d after channel.computer comes) [
         | inl same ↦ record { state = has.state; kept = same ∙ has.kept; is = has.is }
         | inr moves ↦

@@ -67,7 +67,7 @@ abbrev marks_in : Answered → List Mark
 marks_in one = mark_if one.sends one.mark
 
 module _ (link : ℕ) where
-  -- as many sends on the link as there are marks
+  -- there are as many sends on the link as there are marks
   abbrev HasMarks : NotedFact
   HasMarks answers d left = links_sent d.work.actions ≡ once_each link (answered_marks answers)
 

@@ -43,7 +43,7 @@ none_open so_far frame whole is = ap (λ (last : Bool). kept_by last (grown so_f
 some_open : (so_far : Option RpcUnit) (frame : RpcUnit) → answer_of so_far frame ≡ Ok None → open_after so_far frame ≡ Some (grown so_far frame)
 some_open so_far frame is = ap (λ (last : Bool). kept_by last (grown so_far frame)) (part_last (joined_of so_far frame) frame.last is)
 
--- it was in its place
+-- a fragment that is joined was in its place
 was_placed : (placed fits : Bool) (whole : RpcUnit) (last : Bool) (answer : Option RpcUnit) → answer_by (joined_by placed fits whole) last ≡ Ok answer → placed ≡ true
 was_placed true fits whole last answer is = refl
 was_placed false fits whole last answer is = absurd (let x = is in cc)
@@ -65,7 +65,7 @@ refused_first frame isnt =
 
 -- ---- what is said on the link while the frames of a unit come
 
--- it is bound, and what is open is what was joined; or it isn't bound, and nothing is open; or it is bound since a
+-- a link is bound, and what is open is what was joined; or it isn't bound, and nothing is open; or it is bound since a
 -- frame, and nothing is open
 abbrev Said : Option RpcUnit → Talk → Type 0
 Said so_far talk =

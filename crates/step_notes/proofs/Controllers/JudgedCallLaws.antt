@@ -18,7 +18,7 @@ if_network Fact (Logoff c) so = tt
 if_network Fact (NetworkLogoff c) so = tt
 if_network Fact (Set c) so = tt
 
--- and so it is said of one
+-- what is said of a network logon holds of a call that is one
 pub of_network : (Fact : LogonCall → Type 0) (asked : JudgedCall) (c : LogonCall) → asked ≡ Network c → IfNetwork Fact asked → Fact c
 of_network Fact asked c is said = subst (λ (a : JudgedCall). IfNetwork Fact a) is said
 

@@ -130,7 +130,7 @@ judgings_in_range c at controller source link piece now left is moment eight =
 
 -- ---- a reply is read
 
--- its stub is that of the reply to that network logon
+-- the stub of the reply to a network logon is that reply as it is written
 stub_is : (j : Judging) (c : LogonCall) (channel : SecureChannelState) (given : Authenticator) → j.asked ≡ Network c → stub_passed j channel given ≡ written_reply (reply_passed j c channel given)
 stub_is j c channel given is =
     let key : List ℕ = key_of_channel channel in

@@ -73,7 +73,7 @@ opening_sends found waiting line c taken =
           };
     })
 
--- and isn't marked as a reply to a call on a secure channel
+-- the reply to an opening isn't marked as one to a call on a secure channel
 
 opened_carries : (unit : Option ℕ) (channel : ChannelIdentity) (number : ℕ) (bytes : List ℕ) → IsOpeningReply number bytes → CarriesReply (opened_mark unit channel number) None bytes
 opened_carries None channel number bytes opens = tt
@@ -152,7 +152,7 @@ module _ (Carries : Mark → Option Judging → List ℕ → Type 0) where
       if_joined first.sends first new more (λ (rest : List (List ℕ)). AreSentBy Carries answers rest) (λ (rest : List (List ℕ)). AreSentBy Carries (answers ++ one ∷ []) rest)
       (λ rest is. joined answers one rest more is last) each
 
-  -- one unit more
+  -- `AreSentBy` goes on with one unit more behind the others
   pub further : (answers : List Answered) (one : Answered) (old new : List Action) (more : List (List ℕ)) → AreSentBy Carries answers (sends_in old) → sends_in new ≡ sends_in old ++ more →
       AreSentBy Carries (one ∷ []) more → AreSentBy Carries (answers ++ one ∷ []) (sends_in new)
   further answers one old new more each is last =

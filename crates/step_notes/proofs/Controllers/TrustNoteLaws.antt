@@ -184,7 +184,7 @@ module _ (c : ControllerState) (link : ℕ) (w : Where) (left : List (List ℕ))
 
 module _ (c : ControllerState) (link : ℕ) (w : Where) (piece : List ℕ) (now : ℕ) (left : List (List ℕ)) where
   module _ (requesters : List Requester) (turn : ℕ) where
-    -- it waits for nobody's answer
+    -- the controller, where it waits for nobody's answer
     abbrev one : ControllerState
     one = record c { trusting = quiet requesters turn }
 

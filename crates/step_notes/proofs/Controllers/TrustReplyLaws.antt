@@ -61,11 +61,11 @@ one_sent one sent is = sent_if one.sends one sent is
 
 -- ---- a logon for a trust
 
--- how it is told, and so written down
+-- how a logon is told, first behind the earlier actions, is how it is written down
 told_first : (old all : List Action) (how : Judged) (new : List Action) → all ≡ old ++ action.Judged how ∷ new → judged_in (drop (length old) all) ≡ Some how
 told_first old all how new is = ap (λ (actions : List Action). judged_in (drop (length old) actions)) is ∙ ap judged_in (dropped old (action.Judged how ∷ new))
 
--- one that is handed on sends nothing
+-- a logon that is handed on sends nothing
 handed_sent : (how : Option Judged) (j : Judging) → how ≡ Some judged.Forwarded → AreSentBy CarriesTrustReply (trust_judging_by how j ∷ []) []
 handed_sent how j is = subst (λ (one : Option Judged). AreSentBy CarriesTrustReply (trust_judging_by one j ∷ []) []) (sym is) tt
 
@@ -80,14 +80,14 @@ passing_sent : (channel : Option ChannelIdentity) (j : Judging) (bytes : List �
 passing_sent None j bytes is passed carries = (tt, tt)
 passing_sent (Some channel) j bytes is passed carries = (reply_carries j.source channel j bytes refl is passed carries, tt)
 
--- one that could be asked of nobody is answered
+-- a logon that could be asked of nobody is answered
 unasked_sent : (how : Option Judged) (j : Judging) (bytes : List ℕ) → j.how ≡ how → how ≡ Some (judged.Passed no_logon_servers) → IsUnaskedReply j bytes →
     AreSentBy CarriesTrustReply (trust_judging_by how j ∷ []) (bytes ∷ [])
 unasked_sent how j bytes its is carries =
     subst (λ (one : Option Judged). AreSentBy CarriesTrustReply (trust_judging_by one j ∷ []) (bytes ∷ [])) (sym is)
     (passing_sent (channel_in j.controller (computer_named j.asked) j.checks) j bytes refl (ap has_passed (its ∙ is)) carries)
 
--- all frames of that reply
+-- all frames of the reply to a logon that could be asked of nobody
 abbrev unasked_bytes : Line → SecureChannelState → Authenticator → ℕ → List ℕ
 unasked_bytes line channel given validation = bytes_of_call (response_of line.call line.context (stub_unasked channel given validation)) line.limit
 

@@ -74,7 +74,7 @@ unasked_so c line d after goes so = record {
   quiet = (refl, tt);
 }
 
--- as it is written down
+-- how a logon for a trust is judged, as it is written down
 pub trusted_how : (c : JudgedCall) (d after : TrustDesk) (is : IsTrusted c d after) → judged_in (drop (length d.work.work.actions) after.work.work.actions) ≡ Some is.how
 trusted_how c d after is =
     ap (λ (all : List Action). judged_in (drop (length d.work.work.actions) all)) is.actions
@@ -105,7 +105,7 @@ trusted_right c d after is =
 
 -- ---- what is to hold
 
--- as of a controller that asks nobody, and where a logon for a trust comes
+-- a fact stays as at a controller that asks nobody, and where a logon for a trust comes
 pub record StaysWithTrusts (w : Where) (link : ℕ) (Holds : NotedFact) : Type 0 where
   pub base : StaysThrough w link w.name w.moment Holds
   pub trusted : (answers : List Answered) (d after : TrustDesk) (left : List (List ℕ)) (line : Line) (c : JudgedCall) → line.link ≡ link → IsTrusted c d after →

@@ -97,7 +97,7 @@ started_caller (Some p) logons s timestamp challenge = refl
 started_caller None [] s timestamp challenge = refl
 started_caller None (logon ∷ logons) s timestamp challenge = refl
 
--- it leaves the next secret
+-- a turn that starts leaves the next secret
 started_next : (turn : Option Pending) (logons : List Waiting) (s : Requester) (timestamp : ℕ) (challenge : List ℕ) → (start_by turn logons s timestamp challenge).state.next ≡ s.next
 started_next (Some p) logons s timestamp challenge = refl
 started_next None [] s timestamp challenge = refl
@@ -285,7 +285,8 @@ module _ (dialled : Bool) where
 
 -- ---- an outcome leaves the logons, but for the one that ends
 
--- the channel and the secrets are so, and the logon that waited first ends
+-- a member asks for what it keeps where the logon that waited first ends, with the channel as `stands` and these
+-- secrets
 end_asks : (stands : Standing) (secrets : SecretsState) (place : ℕ) (how : Ending) (l : Logons) (w : Work) → w.logons ≡ with_secrets secrets (with_channel l (remove_first stands l.channel)) →
     place ≡ place_of l.channel.turn → AsksForKept true l → OpensByTried stands false l.channel.caller.secret (tried_of secrets) → IsCoherent (remove_first stands l.channel) →
     IsOfCaller (remove_first stands l.channel) → AsksForKept false (end_logon place how w).logons
@@ -316,11 +317,11 @@ Out units at = AsksForKept true at.work.logons
 abbrev Over : Work → Type 0
 Over w = AsksForKept false w.logons
 
--- the member at work, whose channel is so
+-- a member at work, whose channel is the one that is given
 abbrev pub at_channel : AtTurn → Requester → AtTurn
 at_channel at channel = with_work at (with_requester at.work channel)
 
--- both challenges become known only where there was no channel
+-- where both challenges become known, the channel's secret is the one that is tried
 abbrev pub TriesAtHalf : Judgement → Logons → Type 0
 TriesAtHalf (judgement.Half client server) l = l.channel.caller.secret ≡ tried_of l.plan.secrets
 TriesAtHalf (judgement.Opened o) l = Unit {0}

@@ -61,10 +61,10 @@ module _ (number : ℕ) (piece : List ℕ) (now : ℕ) (left : List (List ℕ)) 
 
   -- `Middle` once the bytes are served, and `After` once the step is done: of the units that were served
   pub record HearsBytes : Type 0 where
-    -- it had stopped, or the challenges weren't enough: nothing is written down
+    -- the member had stopped, or the challenges weren't enough: nothing is written down
     pub stopped : After [] (stopped_step left m)
     pub spent : After [] (spent_step left halted_state)
-    -- it has no link of that number
+    -- the member has no link of that number
     pub nowhere : (running : Running) → m.running ≡ Some running → Middle [] running.dialling (work_of running) left
     pub on_link : (running : Running) (link : LinkState Talk) (how : Dialling) → m.running ≡ Some running → running.dialling ≡ how → lookup same_number number running.links ≡ Some link →
         PartHolds (Middle (served_units link_server (cut_stream (link.rest ++ piece)).units (at_link number (work_of running)) link.talk left))

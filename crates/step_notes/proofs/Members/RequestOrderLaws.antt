@@ -53,7 +53,7 @@ kept_grows : (changes : Bool) (secrets : SecretsState) (old : List Action) → G
 kept_grows false secrets old = grows_not old
 kept_grows true secrets old = told old _
 
--- its link is closed before it ends
+-- the link of a turn is closed before the turn ends
 closed_grows : (cause : CloseCause) (how : TurnEnd) (link : ℕ) (w : Work) → Grows w.actions (end_turn how (tell_at w (action.Close link cause))).actions
 closed_grows cause how link w =
     let closed : Work = tell_at w (action.Close link cause) in

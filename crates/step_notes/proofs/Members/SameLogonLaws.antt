@@ -29,7 +29,7 @@ use Rattle.member_server.proofs.LinkView.{BoundView, Closes, Asks, Overflows, Ke
 use Rattle.member_server.proofs.OutcomeView.{EndView, Unknown, Tells, Reaches, end_view}
 use Rattle.step_notes.proofs.Members.UnservedLaws.{HasServed, IfUnserved, bound_serves, ended_serves}
 
--- these actions, and more behind them
+-- actions to which more were added
 pub record Grows (old new : List Action) : Type 0 where
   pub more : List Action
   pub is : new ≡ old ++ more
@@ -126,7 +126,7 @@ view_ended place how w after (Reaches logon link bound held kept there is) =
 pub logon_ended : (place : ℕ) (how : Ending) (w : Work) → IsEnded place w (end_logon place how w)
 logon_ended place how w = view_ended place how w (end_logon place how w) (end_view place how w)
 
--- where it was kept, its outcome is told first
+-- where a logon is kept, its outcome is told first
 view_tells : (place : ℕ) (how : Ending) (w after : Work) (logon : Logon) → EndView place how w after → lookup same_number place w.logons.asked ≡ Some logon →
     Grows (tell_outcome how logon w).actions after.actions
 view_tells place how w after logon (Unknown none) kept = absurd (let x = sym none ∙ kept in cc)

@@ -40,7 +40,7 @@ use Rattle.end_links.proofs.WholeLaws.{limit_bounds}
 
 -- ---- the request that is heard to go out
 
--- it is that of the call of the turn, in frames of a size that a bind agrees on
+-- the request is that of the call of the turn, in frames of a size that a bind agrees on
 abbrev pub IsOfTurn : Option Pending → ℕ → Hearing → Type 0
 IsOfTurn turn next hearing.Skip = Unit {0}
 IsOfTurn turn next (hearing.Next q frames) =

@@ -30,7 +30,7 @@ use Rattle.step_notes.specs.Served.{units_if_taken}
 
 -- ---- a unit
 
--- it is no whole unit yet; or it is taken; or it is refused
+-- bytes are no whole unit yet; or their unit is taken; or they are refused
 pub record ByTaking (at : AtTurn) (Holds : Option Taking → TurnServed → Type 0) : Type 0 where
   pub waits : (joiner : Option RpcUnit) → Holds None (at, Some (turn_talk joiner))
   pub takes : (unit : RpcUnit) (after : Option RpcUnit) →

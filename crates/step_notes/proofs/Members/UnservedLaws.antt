@@ -49,7 +49,7 @@ IfUnserved X (phase.Asked bound place held) = Unit {0}
 IfUnserved X (phase.In on) = Unit {0}
 IfUnserved X (phase.Out bound status) = Unit {0}
 
--- the same where the link stays open, of how far it is
+-- what holds of how far a link is, where it stays open and its CHALLENGE hasn't served
 abbrev pub IfUnservedAfter : (Phase → Type 0) → Option Talk → Type 0
 IfUnservedAfter X None = Unit {0}
 IfUnservedAfter X (Some talk) = IfUnserved (X talk.phase) talk.phase

@@ -1,4 +1,4 @@
--- Those so far are without their lines on the link, and the others as they were.
+-- The calls so far are without their lines on the link, and the others as they were.
 use Rattle.std.proofs.Common.{◌≡◌, ◌++◌, take, drop}
 use Rattle.domain_controller.specs.Forwarding.{calls_without}
 use Rattle.domain_controller.proofs.forwarding.calls_without.Given as goal

@@ -1,4 +1,4 @@
--- Those that ask so far, one for each trust.
+-- The requesters so far, one for each trust.
 use Rattle.std.proofs.Common.{◌≡◌, map, take}
 use Rattle.account_table.specs.declared.account.Trust.{Trust}
 use Rattle.channel_client.specs.Machine.{fresh_requester}

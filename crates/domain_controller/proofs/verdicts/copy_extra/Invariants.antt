@@ -1,4 +1,4 @@
--- Those so far are copied.
+-- The entries so far are copied.
 use Rattle.std.proofs.Common.{◌≡◌, take}
 use Rattle.domain_controller.proofs.verdicts.copy_extra.Given as goal
 

@@ -22,8 +22,8 @@ use Rattle.domain_world.specs.Accepting.Answered.{PassesAreUnclashed}
 use Rattle.domain_world.specs.Accepting.Carried.{IsJudgedAsCarried, IsNotJudged, IsPlain, IsWholeAsMarked, IsWholeUnit, JudgedAsCarried, MarkedUnitsAreWhole, call_carried, call_judged}
 use Rattle.domain_world.specs.Claims.ChannelKinds.{CallsAreOpened, IsHandedOnBy, IsLastOpened, IsMadeAsCall, IsNoSecondHop, IsOfItsKind, IsOpenedLikewise, IsPassedAsCall, KeptHaveKindsAsked, KindsDecide, KindsFollowOpenings, OpeningsNameTheirKind, PassesAreCalls, kind_asked}
 use Rattle.domain_world.specs.Past.{Past, plain_form}
-use Rattle.domain_world.proofs.Accepting.CarriedLaws.{one_unit}
-use Rattle.domain_world.proofs.Accepting.Turns.TurnNotedLaws.{IsMadeFor, unclashed as made_unless}
+use Rattle.domain_world.proofs.Acceptance.CarriedLaws.{one_unit}
+use Rattle.domain_world.proofs.Acceptance.Turns.TurnNotedLaws.{IsMadeFor, unclashed as made_unless}
 use Rattle.domain_world.proofs.Apart.OrderToldLaws.{AreOnce}
 use Rattle.domain_world.proofs.Apart.ToldRunLaws.{once_by_pairs}
 use Rattle.domain_world.proofs.Judgements.Openings.OpeningKindLaws.{last_found}

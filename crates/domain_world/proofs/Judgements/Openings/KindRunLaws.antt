@@ -48,8 +48,8 @@ use Rattle.domain_world.proofs.Moves.TrustNoBytesLaws.{KeepsUnlessEnded, hears_n
 
 -- ---- a step of a controller
 
--- of a controller that hasn't stopped
-abbrev AreAsOpenedIf : List ChannelAccepted → ℕ → Option Running → Type 0
+-- unless it stopped, the controller keeps channels as they were opened
+abbrev AreAsOpenedIf : (accepted : List ChannelAccepted) (controller : ℕ) (running : Option Running) → Type 0
 AreAsOpenedIf accepted controller None = Unit {0}
 AreAsOpenedIf accepted controller (Some running) = AreAsOpened accepted controller running.computers
 
@@ -58,7 +58,7 @@ record StepKinds (accepted now : List ChannelAccepted) (controller : ℕ) (answe
   each : AllByRecursion (λ (one : Answered). HoldsIf (IsCheckedAsOpened now) one.judging) answers
   others : (at : ℕ) (name : List ℕ) → at ≢ controller → last_accepted at name now ≡ last_accepted at name accepted
 
--- nothing is answered
+-- `StepKinds` holds where nothing is answered
 nothing_more : (accepted : List ChannelAccepted) (controller : ℕ) (running : Option Running) → AreAsOpenedIf accepted controller running → StepKinds accepted accepted controller [] running
 nothing_more accepted controller running kept = record { kept = kept; each = tt; others = λ at name differs. refl }
 
@@ -82,7 +82,7 @@ step_kinds controller c accepted w piece s numbers kept =
 
 -- ---- through the moves
 
--- of the openings that were accepted, the calls that were judged, and what each controller keeps
+-- the channels that controllers keep, and those on which calls were checked, are as they were opened
 record KindsStand (accepted : List ChannelAccepted) (judgings : List Judging) (controllers : List ControllerState) : Type 0 where
   each : (at : ℕ) (c : ControllerState) → slice_get controllers at ≡ Some c → AreAsOpenedIf accepted at c.running
   checked : AllByRecursion (IsCheckedAsOpened accepted) judgings
@@ -103,7 +103,7 @@ kinds_so = record {
 abbrev Stand : Kinds → ControllersFact
 Stand kinds controllers chances = KindsStand kinds.0 kinds.1 controllers
 
--- a controller that keeps channels so is put in its place
+-- `KindsStand` stays where a controller that keeps channels as they were opened is put in its place
 put_stands : (accepted : List ChannelAccepted) (judgings : List Judging) (controllers : List ControllerState) (at : ℕ) (new : ControllerState) → AreAsOpenedIf accepted at new.running →
     KindsStand accepted judgings controllers → KindsStand accepted judgings (slice_set controllers at new)
 put_stands accepted judgings controllers at new kept stands = record {
@@ -111,14 +111,14 @@ put_stands accepted judgings controllers at new kept stands = record {
   checked = stands.checked;
 }
 
--- what is kept of computers is so, unless the controller stops
+-- channels are kept as they were opened where what is kept of computers stays, unless the controller stops
 ended_keeps : (after before : Option Running) (accepted : List ChannelAccepted) (controller : ℕ) → KeepsUnlessEnded after before → AreAsOpenedIf accepted controller before →
     AreAsOpenedIf accepted controller after
 ended_keeps None before accepted controller same kept = tt
 ended_keeps (Some after) None accepted controller same kept = absurd same
 ended_keeps (Some after) (Some before) accepted controller same kept = subst (λ computers. AreAsOpened accepted controller computers) (sym same) kept
 
--- of another controller, where its openings are those of before
+-- another controller keeps channels as they were opened, where its last openings are those of before
 others_keep : (running : Option Running) (accepted now : List ChannelAccepted) (controller : ℕ) → ((name : List ℕ) → last_accepted controller name now ≡ last_accepted controller name accepted) →
     AreAsOpenedIf accepted controller running → AreAsOpenedIf now controller running
 others_keep None accepted now controller same kept = tt
@@ -144,7 +144,7 @@ bytes_stand c at w piece s after b is stands =
           (λ j checked computer has named there. one_older (IsAsOpened j.controller computer has) more b.accepted (checked computer has named there)) stands.checked);
     }
 
--- none is kept
+-- `AreAsOpened` holds where no channel is kept
 fresh_keeps : (accepted : List ChannelAccepted) (controller : ℕ) → AreAsOpened accepted controller (record { pending = []; channels = []; sessions = [] })
 fresh_keeps accepted controller name has at = absurd (no_some has at)
 
@@ -174,7 +174,7 @@ kinds_stand plan moves nothing = controllers_after kinds_of Stand stand_on plan 
 
 -- ---- a call that is handed on
 
--- it is checked on a channel of a type that hands on
+-- the call is checked on a channel of a type that hands on
 record IsHandedFrom (j : Judging) : Type 0 where
   computer : List ℕ
   has : SecureChannelState
@@ -188,7 +188,7 @@ IsHandedSo j = j.how ≡ Some judged.Forwarded → IsHandedFrom j
 abbrev AnyTable : AccountTable → Type 0
 AnyTable table = Unit {0}
 
--- none is, where it is judged here
+-- a call that is judged here isn't handed on
 never_handed : (w : Where) (line : Line) (c : JudgedCall) (d : Desk) → IsHandedSo (judging_of w line c d (Some (answer_judged c w.name w.moment line d)))
 never_handed w line c d forwarded =
     let j : Judging = judging_of w line c d (Some (answer_judged c w.name w.moment line d)) in
@@ -211,7 +211,7 @@ each_handed w = record {
   trusted = λ line c d after is known. trusted_handed w line c d after is;
 }
 
--- which unit carries the reply changes nothing of that
+-- `IsHandedSo` stays whichever unit carries the reply
 by_reply : (j : Judging) (number : Option ℕ) → IsHandedSo j → IsHandedSo (record j { reply = number })
 by_reply j number so forwarded =
     let from : IsHandedFrom j = so forwarded in record { computer = from.computer; has = from.has; named = from.named; checks = from.checks; hands = from.hands }
@@ -237,7 +237,7 @@ handed_so plan moves = book_holds AreHandedSo end_handed (λ at given after b wa
 
 -- ---- in every run
 
--- by the opening of the channel on which it is checked
+-- a call was handed on by the opening of the channel on which it is checked
 handed_by : (accepted : List ChannelAccepted) (j : Judging) → IsHandedSo j → IsCheckedAsOpened accepted j → j.how ≡ Some judged.Forwarded → OneOf (IsHandedOnBy j) accepted
 handed_by accepted j so checked forwarded =
     let from : IsHandedFrom j = so forwarded in

@@ -22,15 +22,15 @@ use Rattle.domain_world.specs.Accepting.Carried.{call_carried}
 use Rattle.step_notes.specs.HeardWhole.{request_read}
 use Rattle.domain_world.specs.Claims.OpeningReplies.{AnswersOpening, IsAcceptedIn, IsMarkedAsOpened, IsReplyOfOpening, RepliesAreToOpenings}
 use Rattle.domain_world.specs.Past.{Past, past}
-use Rattle.domain_world.proofs.Accepting.CarriedLaws.{one_whole}
-use Rattle.domain_world.proofs.Accepting.Heard.HeardFrontLaws.{IsOfRequest, of_request}
-use Rattle.domain_world.proofs.Accepting.Heard.MarkSentLaws.{IsCallSent, IsRequestSent, IsStampedCall}
-use Rattle.domain_world.proofs.Accepting.Heard.MarkWholeLaws.{FitsMark, OfMark, marks_fit}
-use Rattle.domain_world.proofs.Accepting.Heard.OpeningCarriedLaws.{IsCarriedOpening, IsOpenedWell, openings_carried}
+use Rattle.domain_world.proofs.Acceptance.CarriedLaws.{one_whole}
+use Rattle.domain_world.proofs.Acceptance.Heard.HeardFrontLaws.{IsOfRequest, of_request}
+use Rattle.domain_world.proofs.Acceptance.Heard.MarkSentLaws.{IsCallSent, IsRequestSent, IsStampedCall}
+use Rattle.domain_world.proofs.Acceptance.Heard.MarkWholeLaws.{FitsMark, OfMark, marks_fit}
+use Rattle.domain_world.proofs.Acceptance.Heard.OpeningCarriedLaws.{IsCarriedOpening, IsOpenedWell, openings_carried}
 use Rattle.wire_base.proofs.ListPlaceLaws.{Placed, one_at, placed}
-use Rattle.domain_world.proofs.Accepting.MarkRunLaws.{openings_marked}
+use Rattle.domain_world.proofs.Acceptance.MarkRunLaws.{openings_marked}
 use Rattle.domain_world.proofs.Quiet.QuietRunLaws.{has_bytes}
-use Rattle.domain_world.proofs.Accepting.Turns.TurnNotedLaws.{IsMadeFor, unclashed as made_unless}
+use Rattle.domain_world.proofs.Acceptance.Turns.TurnNotedLaws.{IsMadeFor, unclashed as made_unless}
 use Rattle.domain_world.proofs.Frames.BagFrameLaws.{IsOfUnit}
 use Rattle.domain_world.proofs.Moves.PlacedLaws.{bytes_in}
 use Rattle.domain_world.proofs.Judgements.Openings.EveryOpeningLaws.{replies_answer_openings}

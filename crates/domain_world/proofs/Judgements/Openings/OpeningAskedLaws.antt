@@ -14,10 +14,10 @@ use Rattle.world_moves.specs.Alone.{IsPlainAlone}
 use Rattle.world_moves.specs.Forms.{IsSchedule}
 use Rattle.domain_world.specs.Claims.ChannelKinds.{IsOfItsKind, OpeningsNameTheirKind, kind_asked}
 use Rattle.domain_world.specs.Past.{Past, past}
-use Rattle.domain_world.proofs.Accepting.Heard.MarkSentLaws.{AreItsNames}
-use Rattle.domain_world.proofs.Accepting.Heard.MarkWholeLaws.{FitsMark, MarksFit, OfMark, marks_fit}
-use Rattle.domain_world.proofs.Accepting.Heard.OpeningCarriedLaws.{IsCarriedOpening, IsOpenedWell, openings_carried}
-use Rattle.domain_world.proofs.Accepting.Turns.TurnNotedLaws.{IsMadeFor, unclashed as made_unless}
+use Rattle.domain_world.proofs.Acceptance.Heard.MarkSentLaws.{AreItsNames}
+use Rattle.domain_world.proofs.Acceptance.Heard.MarkWholeLaws.{FitsMark, MarksFit, OfMark, marks_fit}
+use Rattle.domain_world.proofs.Acceptance.Heard.OpeningCarriedLaws.{IsCarriedOpening, IsOpenedWell, openings_carried}
+use Rattle.domain_world.proofs.Acceptance.Turns.TurnNotedLaws.{IsMadeFor, unclashed as made_unless}
 use Rattle.domain_world.proofs.Apart.AskedNamesLaws.{opening_names}
 use Rattle.domain_world.proofs.Calls.CallHoldsLaws.{mark_there, marks_in}
 use Rattle.domain_world.proofs.Calls.MarkWayLaws.{marks_have_their_way}

@@ -38,8 +38,8 @@ use Rattle.domain_world.proofs.Judgements.SeedStepLaws.{numbers_left}
 
 -- ---- what is known
 
--- of what a controller keeps of computers
-abbrev pub AreAsOpened : List ChannelAccepted → ℕ → Computers → Type 0
+-- each channel that the controller keeps is of the opening that it accepted last for the computer
+abbrev pub AreAsOpened : (accepted : List ChannelAccepted) (controller : ℕ) (computers : Computers) → Type 0
 AreAsOpened accepted controller computers =
     (name : List ℕ) (has : SecureChannelState) → lookup same_name name computers.channels ≡ Some has → IsLastOpened controller name has accepted
 
@@ -55,8 +55,8 @@ last_found P controller name [] one is holds = absurd (no_some one is)
 last_found P controller name (first ∷ older) one is holds =
     newer_found (is_opened_for controller name first) P first one older (last_accepted controller name older) (λ last. last_found P controller name older one last holds) is holds
 
--- of the calls that are answered, too, and of the openings that are accepted then: those for another controller stay
--- the last ones
+-- the channels that the controller keeps, and those on which the answered calls are checked, are as they were opened;
+-- the last openings of another controller stay the last ones
 pub record KindsGo (accepted now : List ChannelAccepted) (controller : ℕ) (answers : List Answered) (computers : Computers) : Type 0 where
   pub kept : AreAsOpened now controller computers
   pub each : AllByRecursion (λ (one : Answered). HoldsIf (IsCheckedAsOpened now) one.judging) answers
@@ -64,8 +64,8 @@ pub record KindsGo (accepted now : List ChannelAccepted) (controller : ℕ) (ans
 
 -- ---- one answer more
 
--- the opening, if it is one, is at that controller
-abbrev IsHere : ℕ → Option ChannelAccepted → Type 0
+-- the opening, if there is one, is at that controller
+abbrev IsHere : (controller : ℕ) (found : Option ChannelAccepted) → Type 0
 IsHere controller None = Unit {0}
 IsHere controller (Some one) = one.channel.controller ≡ controller
 
@@ -86,7 +86,7 @@ checked_more (Some one) reply accepted (Some j) checked = λ computer has named 
 -- ---- an opening
 
 module _ (accepted : List ChannelAccepted) (w : Where) (line : Line) (c : AuthCall) (reply : Option ℕ) (d : Desk) (kept : AreAsOpened accepted w.controller d.work.computers) where
-  -- what is kept, where a channel was opened so
+  -- what is kept, where a channel was opened with the type that the call names
   module _ (channel : SecureChannelState) (kind_is : channel.kind ≡ Some c.channel) where
     abbrev new : ChannelAccepted
     new = record (accepting w line.call c.channel (channel_of w.controller c.computer channel)) { reply = reply }
@@ -166,7 +166,7 @@ judged_kept accepted controller c name now line d after comes kept = λ other ha
           (moved_opened moves.passes accepted controller other moves.channel moves.given (kept other moves.channel moves.was))
     ]
 
--- what would come of it here leaves the channels so, and so does what comes of it
+-- a call that is for a trust leaves channels as they were opened, as it would if it were judged here
 trusted_kept : (accepted : List ChannelAccepted) (w : Where) (line : Line) (c : JudgedCall) (d after : TrustDesk) → IsTrusted c d after → AreAsOpened accepted w.controller d.work.work.computers →
     AreAsOpened accepted w.controller after.work.work.computers
 trusted_kept accepted w line c d after is kept =

@@ -190,7 +190,7 @@ name_kept controller name (Some state) c is = ap ChannelIdentity.computer (sym (
 
 module _ (accepted : List ChannelAccepted) (left : List (List ℕ)) (controller : ℕ) (computer : List ℕ) (one : ChannelAccepted) (before after : Computers) (is : Accepts controller computer one.channel before after)
     (map : IsMap same_name after.pending) (order : AreOrdered accepted left) (kept : AreOpened accepted left controller before) where
-  -- whether it is for that computer
+  -- whether an opening is for that computer
   by_test : (at : ℕ) (name : List ℕ) → is_opened_for at name one ≡ ((controller == at) && same_name name computer)
   by_test at name = ap₂ (λ (k : ℕ) (n : List ℕ). (k == at) && same_name name n) is.controller_is is.computer_is
 

@@ -20,12 +20,12 @@ use Rattle.domain_world.proofs.Moves.MarkNumberLaws.{AtNumbers, at_later}
 
 -- ---- the mark of an answer
 
--- it is that of the reply to the opening, where this came in a unit of the bag
+-- a mark is that of the reply to the opening, where this came in a unit of the bag
 abbrev IsOpenedMark : Mark → ChannelAccepted → Type 0
 IsOpenedMark mark one = (n : ℕ) → one.source ≡ InUnit n → mark ≡ Opened one.channel one.number n
 
--- an opening that was accepted has an answer with its mark, and came from there, after so many moves
-abbrev pub IfAccepted : ℕ → Source → Bool → Mark → Option ChannelAccepted → Type 0
+-- an opening that was accepted has an answer with its mark, and came from `source`, after `moves` moves
+abbrev pub IfAccepted : (moves : ℕ) (source : Source) → Bool → Mark → Option ChannelAccepted → Type 0
 IfAccepted moves source sends mark None = Unit {0}
 IfAccepted moves source sends mark (Some one) = (sends ≡ true) × (one.source ≡ source) × (one.at ≡ moves) × IsOpenedMark mark one
 

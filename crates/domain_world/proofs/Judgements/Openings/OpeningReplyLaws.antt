@@ -154,7 +154,7 @@ requests_free (ReplyTo channel call request) accepted number way = tt
 abbrev pub OfUnit : UnitFact (List ChannelAccepted)
 OfUnit accepted number unit mark = IsReplyOfOpening accepted number mark
 
--- it rests on nothing else
+-- the marks of openings rest on nothing else
 abbrev pub NothingElse : List ChannelAccepted → Fact
 NothingElse accepted ends chances links = Unit {0}
 

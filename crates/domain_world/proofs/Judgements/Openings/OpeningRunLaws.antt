@@ -211,7 +211,7 @@ bytes_step controller c accepted w piece s numbers order kept =
 
 -- ---- a step at which no bytes come
 
--- what is kept of computers is so
+-- openings are kept where what is kept of computers is the same
 same_kept : (old new : Option Running) (accepted : List ChannelAccepted) (left : List (List ℕ)) (controller : ℕ) → KeepsComputers old new → AreOpenedIf accepted left controller old →
     AreOpenedIf accepted left controller new
 same_kept None None accepted left controller same kept = tt
@@ -305,7 +305,7 @@ controller_put accepted now left rest controllers at old new is follow goes =
       ];
     }
 
--- another end drew challenges
+-- openings follow where another end drew challenges
 drawn_follow : (accepted : List ChannelAccepted) (left rest : List (List ℕ)) (controllers : List ControllerState) → IsRest rest left → OpeningsFollow accepted left controllers →
     OpeningsFollow accepted rest controllers
 drawn_follow accepted left rest controllers is follow = record {
@@ -325,7 +325,7 @@ bytes_follow c accepted controller w piece s numbers is follow =
     controller_put accepted _ s.chances.left _ s.ends.controllers controller c (step_of c (event.Bytes w.link piece) s.moment s.chances.left).state is follow
     (bytes_step controller c accepted w piece s numbers follow.order (follow.each controller c is))
 
--- it hears something else
+-- openings follow where a controller hears something else than bytes
 quiet_follow : (c : ControllerState) (accepted : List ChannelAccepted) (controller : ℕ) (what : Event) (now : ℕ) (controllers : List ControllerState) (left : List (List ℕ)) →
     slice_get controllers controller ≡ Some c → IsNoBytes what → OpeningsFollow accepted left controllers →
     OpeningsFollow accepted (step_of c what now left).left (slice_set controllers controller (step_of c what now left).state)
@@ -376,7 +376,7 @@ trusting_step controller c accepted w piece s numbers order kept =
           (record { order = goes.order; kept = goes.kept; fewer = goes.fewer; came = goes.came; fresh = goes.fresh; others = goes.others }));
     })
 
--- what is kept of computers is so, unless the controller stops
+-- openings are kept where what is kept of computers is the same, unless the controller stops
 ended_stays : (after before : Option Running) (accepted : List ChannelAccepted) (left : List (List ℕ)) (controller : ℕ) → KeepsUnlessEnded after before → AreOrdered accepted left →
     AreOpenedIf accepted left controller before → StepGoes accepted accepted left left controller (λ name. waits_if before name) after
 ended_stays None before accepted left controller same order kept =

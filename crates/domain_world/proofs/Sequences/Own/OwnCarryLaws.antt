@@ -27,8 +27,8 @@ use Rattle.domain_world.specs.Accepting.SeenSteps.{Differ, HearsNone}
 use Rattle.domain_world.specs.Accepting.Sequences.{IsTakenFor}
 use Rattle.domain_world.specs.Past.{controller_asked, running_in}
 use Rattle.domain_world.proofs.Frames.AloneStepLaws.{renew_alone_by as renew_by, renew_controller_alone as renew_controller, renewed_alone as renewed}
-use Rattle.domain_world.proofs.Accepting.Turns.TurnFactLaws.{AreApart, GrowsTo, SameEnds, marks_before, past_at}
-use Rattle.domain_world.proofs.Accepting.Turns.TurnQuietLaws.{change_same, renew_same, same_ends}
+use Rattle.domain_world.proofs.Acceptance.Turns.TurnFactLaws.{AreApart, GrowsTo, SameEnds, marks_before, past_at}
+use Rattle.domain_world.proofs.Acceptance.Turns.TurnQuietLaws.{change_same, renew_same, same_ends}
 use Rattle.domain_world.proofs.Messages.MessageApartLaws.{links_in}
 use Rattle.domain_world.proofs.Moves.ComingLaws.{StillHas, kept_same}
 use Rattle.domain_world.proofs.Frames.EventLaws.{by_no_bytes}

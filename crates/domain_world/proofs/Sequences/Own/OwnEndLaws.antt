@@ -10,11 +10,11 @@ use Rattle.domain_world.specs.Claims.{IsClear}
 use Rattle.domain_world.specs.Past.{Past, past, controller_asked}
 use Rattle.domain_world.specs.Schedules.{OfSchedules}
 use Rattle.domain_world.proofs.Quiet.QuietRunLaws.{has_bytes}
-use Rattle.domain_world.proofs.Accepting.ScheduleLaws.{units_heard}
-use Rattle.domain_world.proofs.Accepting.Turns.TurnFactLaws.{apart_from, past_at, taken_stays, world_in}
-use Rattle.domain_world.proofs.Accepting.Turns.TurnMarkLaws.{marks_known}
-use Rattle.domain_world.proofs.Accepting.Turns.TurnQuietLaws.{same_ends}
-use Rattle.domain_world.proofs.Accepting.Turns.TurnRunLaws.{TurnAction, TurnSide, side_first, side_keeps}
+use Rattle.domain_world.proofs.Acceptance.ScheduleLaws.{units_heard}
+use Rattle.domain_world.proofs.Acceptance.Turns.TurnFactLaws.{apart_from, past_at, taken_stays, world_in}
+use Rattle.domain_world.proofs.Acceptance.Turns.TurnMarkLaws.{marks_known}
+use Rattle.domain_world.proofs.Acceptance.Turns.TurnQuietLaws.{same_ends}
+use Rattle.domain_world.proofs.Acceptance.Turns.TurnRunLaws.{TurnAction, TurnSide, side_first, side_keeps}
 use Rattle.domain_world.proofs.Messages.MessageApartLaws.{messages_apart}
 use Rattle.domain_world.proofs.Moves.ComingLaws.{kept_same}
 use Rattle.domain_world.proofs.Moves.DrawnRunLaws.{draws_differ}

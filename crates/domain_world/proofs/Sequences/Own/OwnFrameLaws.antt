@@ -181,7 +181,7 @@ begin_holds client state actions plans ends dials chances turns known differ =
 
 -- ---- a member begins to change its secret
 
--- its turns and its dials stay as they are
+-- a member's turns and its dials stay as they are
 changed_turns : (who : RequesterId) (controller : ℕ) (d : Option EndId) (rest : Given) (dials : List WaitingDial) (drawn : List (List ℕ)) (given : Given) (turns : List ChannelTurn) (secret : List ℕ) (running : Running) →
     TurnsIf who controller d rest dials drawn given turns (Some running) → TurnsIf who controller d rest dials drawn given turns (member_begun secret running).running
 changed_turns who controller d rest dials drawn given turns secret running old = record {

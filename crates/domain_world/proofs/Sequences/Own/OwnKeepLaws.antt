@@ -19,8 +19,8 @@ use Rattle.domain_world.specs.Accepting.SeenSteps.{Differ}
 use Rattle.domain_world.specs.Accepting.Sequences.{IsTakenFor}
 use Rattle.domain_world.specs.Past.{controller_asked, note_given, other_marks, sent_at, turns_in}
 use Rattle.domain_world.proofs.Frames.AloneStepLaws.{alone_by as step_by}
-use Rattle.domain_world.proofs.Accepting.Turns.TurnFactLaws.{AreApart, MarksAreKnown, SameEnds, marks_before, past_at}
-use Rattle.domain_world.proofs.Accepting.Turns.TurnQuietLaws.{hear_grows, over_grows, step_same}
+use Rattle.domain_world.proofs.Acceptance.Turns.TurnFactLaws.{AreApart, MarksAreKnown, SameEnds, marks_before, past_at}
+use Rattle.domain_world.proofs.Acceptance.Turns.TurnQuietLaws.{hear_grows, over_grows, step_same}
 use Rattle.domain_world.proofs.Messages.MessageApartLaws.{links_in}
 use Rattle.domain_world.proofs.Frames.StepFrameLaws.{RunFact}
 use Rattle.domain_world.proofs.Moves.ComingLaws.{kept_same}
@@ -55,7 +55,7 @@ draws_still chances later on = subst (λ (all : List (List ℕ)). StillDrawn cha
 pub draws_before : (chances later : Drawing) → DrawsOn chances later → Differ later.drawn → Differ chances.drawn
 draws_before chances later on differ = differ_front chances.drawn on.more (subst Differ on.is differ)
 
--- ---- it is kept
+-- ---- what is known of turns is kept
 
 -- no whole unit comes on the link of its turn, where it is a member
 abbrev pub HearsNoUnit : EndId → Event → State → Type 0

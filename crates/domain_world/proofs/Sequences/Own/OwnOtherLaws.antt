@@ -21,7 +21,7 @@ use Rattle.world_moves.specs.Acting.{Given, given_by}
 use Rattle.world_moves.specs.Alone.{hear_alone as hear}
 use Rattle.world_moves.proofs.EndKindLaws.{of_member}
 use Rattle.domain_world.specs.Past.{Delivery, at_member, marks_of, note_member, note_messages, sent_at, with_marks, with_taken}
-use Rattle.domain_world.proofs.Accepting.Turns.TurnFactLaws.{AreApart, apart_front}
+use Rattle.domain_world.proofs.Acceptance.Turns.TurnFactLaws.{AreApart, apart_front}
 use Rattle.domain_world.proofs.Messages.MessageApartLaws.{links_append, links_in}
 use Rattle.domain_world.proofs.Calls.CallComesLaws.{if_none, no_requests_sent, other_none, units_in_none}
 use Rattle.domain_world.proofs.Calls.CallHoldsLaws.{marks_append, marks_in}

@@ -232,7 +232,7 @@ module _ (s : State) where
       ∙ ap (λ (l : List ChannelTurn). mine who turns ++ l) (all_mine who given)
       ∙ ap (λ (r : Option Running). mine who turns ++ times (given_dials (asking_end who) given) (turn_if (asked_in who s.member_plans s.ends) who r)) runs
 
-  -- ---- they were on channels whose client's challenge was drawn
+  -- ---- the turns that are written down were on channels whose client's challenge was drawn
 
   module _ (given : Given) (turns : List ChannelTurn) (holds : TurnsHold None [] s.member_plans s.ends s.dials s.chances.drawn given turns) where
     if_drawn : (who : RequesterId) (controller : ℕ) (r : Option Running) → TurnsIf who controller None [] s.dials s.chances.drawn given turns r → AreDrawn s.chances.drawn (turn_if controller who r)
@@ -248,7 +248,7 @@ module _ (s : State) where
     all_drawn [] = tt
     all_drawn (one ∷ some) = both_drawn s.chances.drawn (turns_by one.0 one.1 s) (turns_in some s) (one_drawn one.0 one.1) (all_drawn some)
 
-    -- ---- so what is known stays known
+    -- ---- what is known of turns stays known at the end of a move
 
     one_over : (who : RequesterId) (r : Option Running) → asker_in who s.ends ≡ r → TurnsIf who (asked_in who s.member_plans s.ends) None [] s.dials s.chances.drawn given turns r →
         TurnsIf who (asked_in who s.member_plans s.ends) None [] s.dials s.chances.drawn [] (turns ++ turns_in given s) r
@@ -347,7 +347,7 @@ own_seed s who channel o turns holds stands =
     ∙ ap (λ (l : List ChannelTurn). channel_seed channel (stamps_on channel l)) (append-nil (mine who turns))
     ∙ ap (channel_seed channel) (own_stamps who channel turns)
 
--- after a run in which nothing seals
+-- what is known of turns holds after every run in which nothing seals
 pub turns_after : (plan : Plan) (moves : List Move) → NothingSeals plan → AtState TurnsKnown None [] (past plan moves).world.state [] (past plan moves).book.turns
 turns_after plan moves nothing = dials_after TurnsKnown (turns_keep every every_kinds) plan moves nothing (first_known plan)
 

@@ -22,7 +22,7 @@ use Rattle.world_moves.specs.Plain.{plain_member_step as member_step}
 use Rattle.domain_world.specs.Accepting.SeenSteps.{Differ, HearsNone}
 use Rattle.domain_world.specs.Accepting.Sequences.{IsTakenFor}
 use Rattle.domain_world.specs.Past.{controller_asked, running_in}
-use Rattle.domain_world.proofs.Accepting.Turns.TurnFactLaws.{GrowsTo, past_at, taken_stays, world_in}
+use Rattle.domain_world.proofs.Acceptance.Turns.TurnFactLaws.{GrowsTo, past_at, taken_stays, world_in}
 use Rattle.domain_world.proofs.Moves.MarkPlaceLaws.{got_map}
 use Rattle.domain_world.proofs.Calls.CallHoldsLaws.{differ_front, mark_there, marks_in}
 use Rattle.domain_world.proofs.Sequences.CalledStepLaws.{OwnCalls, own_grows}
@@ -42,13 +42,13 @@ OwnBy Done marks drawn turns given controller who r = InOrderUnlessStopped r × 
 abbrev pub OwnOf : Plan → State → Given → Book → RequesterId → Option Running → Type 0
 OwnOf plan s given b who r = OwnBy (IsTakenFor (past_at plan s b)) (marks_in b.sent) s.chances.drawn b.turns given (controller_asked who s) who r
 
--- The turns that are written down were on channels whose client's challenge was drawn; and so much is known of each
+-- The turns that are written down were on channels whose client's challenge was drawn, and `OwnOf` is known of each
 -- requester.
 pub record OwnFacts (plan : Plan) (s : State) (given : Given) (b : Book) : Type 0 where
   pub before : AreDrawn s.chances.drawn b.turns
   pub asks : (who : RequesterId) → OwnOf plan s given b who (asker_in who s.ends)
 
--- ---- it grows
+-- ---- what is written down grows
 
 pub taken_for_stays : (plan : Plan) (s t : State) (b d : Book) → GrowsTo s t b d → (n : ℕ) → IsTakenFor (past_at plan s b) n → IsTakenFor (past_at plan t d) n
 taken_for_stays plan s t b d grows n is =
@@ -144,7 +144,7 @@ module _ (plan : Plan) (s : State) (given : Given) (b : Book) where
   abbrev HeardBy : MemberState → ℕ → Event → AfterHearing
   HeardBy m at what = heard_by (member_step (Some m) at what s.moment s.ends s.chances) s
 
-  -- the others stay
+  -- the other requesters stay as they are where a member hears
   pub member_hears : (m : MemberState) (at : ℕ) (what : Event) → slice_get s.ends.members at ≡ Some m → HearsNone m.running what → GrowsTo s (HeardBy m at what).state b b →
       (Differ s.chances.drawn → OwnFacts plan s given b) → Differ (HeardBy m at what).state.chances.drawn →
       OwnFacts plan (HeardBy m at what).state (given ++ given_by (Member at) (HeardBy m at what).actions) b

@@ -36,10 +36,10 @@ use Rattle.step_notes.proofs.Channels.ChannelNameLaws.{channels_are_named_alike}
 use Rattle.world_moves.specs.declared.plan.Plan.{Plan}
 use Rattle.world_moves.specs.declared.state.State.{State}
 use Rattle.domain_world.specs.Accepting.Sequences.{IsTakenFor}
-use Rattle.domain_world.proofs.Accepting.Heard.AnswerReadLaws.{IsReplyRead, answer_is, logon_read, set_answer_is, set_read}
-use Rattle.domain_world.proofs.Accepting.Turns.TurnFactLaws.{past_at}
+use Rattle.domain_world.proofs.Acceptance.Heard.AnswerReadLaws.{IsReplyRead, answer_is, logon_read, set_answer_is, set_read}
+use Rattle.domain_world.proofs.Acceptance.Turns.TurnFactLaws.{past_at}
 use Rattle.domain_world.specs.Accepting.Carried.{IsTakenInTurn}
-use Rattle.domain_world.proofs.Accepting.Turns.TurnWholeLaws.{ComesWhole, in_turn}
+use Rattle.domain_world.proofs.Acceptance.Turns.TurnWholeLaws.{ComesWhole, in_turn}
 use Rattle.domain_world.proofs.Moves.MarkPlaceLaws.{got_map}
 use Rattle.domain_world.proofs.Calls.CallHoldsLaws.{marks_in}
 use Rattle.domain_world.proofs.Sequences.CallTakenLaws.{IsAnswer}
@@ -88,7 +88,7 @@ module _ (controller : ℕ) (s : Requester) (c : ChannelIdentity) (number timest
   acted_by (hearing.Set (set_hearing.Next frames)) mark = set_by frames s.standing refl mark
   acted_by (hearing.Set (set_hearing.Reply r)) mark = set_settled_by (judge_set r s.standing) mark
 
-  -- it is on the channel that stands
+  -- a call that goes out is on the channel that stands
   pub called_on : (unit : RpcUnit) → (taking_note (Some (take_of s unit)) controller s).mark ≡ Calling c number timestamp → Stands
   called_on unit mark = acted_by (hear s.turn unit s.next_call) mark
 

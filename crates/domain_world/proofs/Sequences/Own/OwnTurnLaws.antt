@@ -53,8 +53,8 @@ use Rattle.domain_world.proofs.Moves.RequesterLaws.{asking_end, is_itself}
 abbrev pub mine : RequesterId → List ChannelTurn → List ChannelTurn
 mine who turns = filter (λ (turn : ChannelTurn). same_requester turn.requester who) turns
 
--- so often
-abbrev pub times : ℕ → List ChannelTurn → List ChannelTurn
+-- a list of turns, again and again, as often as `count`
+abbrev pub times : (count : ℕ) → List ChannelTurn → List ChannelTurn
 times zero turns = []
 times (suc n) turns = turns ++ times n turns
 

@@ -24,8 +24,8 @@ use Rattle.world_moves.proofs.EndKindLaws.{by_member, is_member, no_member}
 use Rattle.domain_world.specs.Past.{Delivery, any_clash, at_controller, marks_of, note_client, sent_at}
 use Rattle.domain_world.proofs.Frames.AloneNoteLaws.{alone_answers as answers_of, note_alone as note_at, note_controller_alone as note_controller}
 use Rattle.domain_world.proofs.Frames.AloneStepLaws.{act_alone as hear_and_act}
-use Rattle.domain_world.proofs.Accepting.Turns.TurnNotedLaws.{or_false}
-use Rattle.domain_world.proofs.Accepting.Turns.TurnQuietLaws.{action_still}
+use Rattle.domain_world.proofs.Acceptance.Turns.TurnNotedLaws.{or_false}
+use Rattle.domain_world.proofs.Acceptance.Turns.TurnQuietLaws.{action_still}
 use Rattle.domain_world.proofs.Moves.ComingLaws.{CameFrom, kept_same, kept_settled}
 use Rattle.domain_world.proofs.Moves.OpenMadeLaws.{IsAtSide}
 use Rattle.domain_world.specs.Accepting.Answered.{IsItsWay}

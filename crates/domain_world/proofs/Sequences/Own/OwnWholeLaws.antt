@@ -36,12 +36,12 @@ use Rattle.domain_world.specs.Accepting.Sequences.{IsTakenFor}
 use Rattle.domain_world.specs.Past.{Delivery, note_member, sent_at, controller_asked, running_in}
 use Rattle.domain_world.specs.Accepting.Runs.{view_with}
 use Rattle.domain_world.proofs.Frames.AloneStepLaws.{act_alone as hear_and_act}
-use Rattle.domain_world.proofs.Accepting.CarriedLaws.{one_whole}
-use Rattle.domain_world.proofs.Accepting.LetInStepLaws.{IsDialledBy}
-use Rattle.domain_world.proofs.Accepting.Turns.TurnFactLaws.{AreApart, GrowsTo, MarksAreKnown, TurnFacts, apart_front, marks_before, past_at}
-use Rattle.domain_world.proofs.Accepting.Turns.TurnQuietLaws.{told_yet}
-use Rattle.domain_world.proofs.Accepting.Turns.TurnRunLaws.{TurnSide, rests_on}
-use Rattle.domain_world.proofs.Accepting.Turns.TurnSideLaws.{TurnSide as RestSide, comes, dialled_on, ends_same, first_book, hears as heard_whole, is_back, messages_in, new_in, sent_stays, turns_clash, units_of, whole}
+use Rattle.domain_world.proofs.Acceptance.CarriedLaws.{one_whole}
+use Rattle.domain_world.proofs.Acceptance.LetInStepLaws.{IsDialledBy}
+use Rattle.domain_world.proofs.Acceptance.Turns.TurnFactLaws.{AreApart, GrowsTo, MarksAreKnown, TurnFacts, apart_front, marks_before, past_at}
+use Rattle.domain_world.proofs.Acceptance.Turns.TurnQuietLaws.{told_yet}
+use Rattle.domain_world.proofs.Acceptance.Turns.TurnRunLaws.{TurnSide, rests_on}
+use Rattle.domain_world.proofs.Acceptance.Turns.TurnSideLaws.{TurnSide as RestSide, comes, dialled_on, ends_same, first_book, hears as heard_whole, is_back, messages_in, new_in, sent_stays, turns_clash, units_of, whole}
 use Rattle.domain_world.proofs.Messages.MessageApartLaws.{links_append, links_in, turns_links}
 use Rattle.domain_world.proofs.Moves.ComingLaws.{CameFrom, CameInUnit, IsPieceOf, came_in_unit, kept_same}
 use Rattle.domain_world.proofs.Moves.OpenMadeLaws.{IsAtSide}

@@ -1,4 +1,4 @@
--- What is left is read as all was.
+-- Reading the parts that are left gives what reading all gave.
 use Rattle.std.proofs.Common.{◌≡◌, ◌-◌}
 use Rattle.ndr_codec.specs.Stub.{reading_by}
 use Rattle.ndr_codec.specs.Parts.{reserved}

@@ -1,4 +1,4 @@
--- What is left is put behind what was put, as all is.
+-- Putting the parts that are left behind what was put gives what putting all gives.
 use Rattle.std.proofs.Common.{◌≡◌, ◌-◌}
 use Rattle.ndr_codec.specs.Parts.{put_reserved}
 use Rattle.ndr_codec.proofs.parts.write_reserved.Given as goal

@@ -1,5 +1,5 @@
--- The hashes that are left, set in the accounts as they stand, give what all give; there are as many accounts as
--- before.
+-- The hashes that are left, set in the accounts as they stand, give what all hashes give, set in the accounts as they
+-- were; there are as many accounts as there were.
 use Rattle.std.proofs.Common.{◌≡◌, drop, length}
 use Rattle.account_table.specs.Secrets.{with_settings}
 use Rattle.account_table.proofs.accounts.Accounts.set_hashes.Given as goal

@@ -1,5 +1,0 @@
-use Rattle.domain_world.proofs.Accepting.Heard.JudgedRunLaws.{replies_back}
-use Rattle.domain_world.proofs.answering.replies_are_read_back.Goals as goal
-
-pub returns : goal.returns
-returns c = replies_back
