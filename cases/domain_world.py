@@ -141,8 +141,8 @@ class ClientEnd:
 
 
 class World:
-    def __init__(self, controllers, members, clients, now=NOW, challenges=None):
-        self.controllers, self.members, self.clients = list(controllers), list(members), list(clients)
+    def __init__(self, controllers, members, clients, now=NOW, challenges=None, stations=()):
+        self.controllers, self.members, self.clients, self.stations = list(controllers), list(members), list(clients), list(stations)
         self.challenges = challenges or Challenges()
         self.links, self.bag, self.dials, self.now = [], [], [], now
         # where in the bag the oldest unit that is undelivered stands, or an older one
@@ -151,7 +151,7 @@ class World:
         self.counts = {"moves": 0, "accepted": 0, "refused": 0, "no_controller": 0, "passed": 0, "barred": 0}
 
     def ends(self):
-        return self.controllers + self.members + self.clients
+        return self.controllers + self.members + self.clients + self.stations
 
     @staticmethod
     def chosen(number, things):
@@ -178,6 +178,9 @@ class World:
             elif kind == "keep":
                 # a member's secrets stand in it
                 assert end in self.members and rest[0] == end.end.kept()
+            elif kind == "told" and end in self.stations:
+                # what comes of a logon at a station isn't counted
+                assert rest[0] == "In"
             elif kind == "told":
                 self.counts[{"In": "accepted", "Out": "refused", "NoController": "no_controller"}[rest[0]]] += 1
             elif rest[0] in ("Passed", "Forwarded"):
@@ -241,10 +244,11 @@ class World:
     # moves
 
     def start(self, number):
-        client = self.chosen(number, self.clients)
-        if client:
-            self.forget(client)
-            self.perform(client, client.begin())
+        """A client begins, or a station: the number chooses among the clients and then the stations."""
+        end = self.chosen(number, self.clients + self.stations)
+        if end:
+            self.forget(end)
+            self.perform(end, end.begin())
 
     def stranger(self, number):
         end = self.chosen(number, self.controllers + self.members)
@@ -257,6 +261,8 @@ class World:
             return "to member" if to in self.members else None
         if to is end or to not in self.controllers:
             return None
+        if end in self.stations:
+            return "from station"
         return "to controller" if end in self.members else "between"
 
     def connect(self):
@@ -645,7 +651,7 @@ def check_clearness():
 def plan_words(world):
     """The words of a world's plan, as it was before its first move."""
     words = []
-    for kind, ends, count in (("controller", world.controllers, 2), ("member", world.members, 4), ("client", world.clients, 8)):
+    for kind, ends, count in (("controller", world.controllers, 2), ("member", world.members, 4), ("client", world.clients, 8), ("station", world.stations, 6)):
         words += ["/".join([kind] + [word_of(word) for word in end.end.words[:count]]) for end in ends]
     return words + [f"now/{world.now}"]
 

@@ -67,6 +67,7 @@ PROGRAMS = {
         "domain_world",
         "world_trusts",
         "world_seals",
+        "world_stations",
     ],
     "top_cases": [
         "nt_top",

@@ -21,7 +21,7 @@ use Rattle.secret_change.specs.Secrets.{tried_by}
 use Rattle.world_moves.specs.declared.plan.Plan.{Plan}
 use Rattle.world_moves.specs.declared.state.State.{State}
 use Rattle.world_moves.specs.Ends.{EndStates}
-use Rattle.world_moves.specs.Forms.{HasMoveForm, IsAccount, IsBlock, IsByte, IsClientPlan, IsIdentifier, IsMemberPlan, IsSchedule, IsTable, IsTrust}
+use Rattle.world_moves.specs.Forms.{HasMoveForm, IsAccount, IsBlock, IsByte, IsClientPlan, IsIdentifier, IsMemberPlan, IsSchedule, IsStationPlan, IsTable, IsTrust}
 use Rattle.world_moves.specs.Moving.{end_of_peer}
 use Rattle.wire_base.proofs.ListLaws.{some_is}
 use Rattle.logon_runs.specs.Rests.{HasItsSecret}
@@ -32,6 +32,7 @@ use Rattle.domain_world.specs.Past.{past}
 use Rattle.claim_examples.specs.ClaimExamples.{small_account, small_hash, small_table}
 use Rattle.claim_examples.specs.CompletenessExamples.{OfCompleteness, OfOwnMembers, OfSuccess, able_client, able_member, able_plan, able_table, alike_plan, ann_accounts, ann_plan, ann_starts, lost_client, lost_moves, lost_plan, machine_account, machine_secret, plan_by, policy_plan, policy_table, two_member, two_plan}
 use Rattle.claim_examples.proofs.SequenceLaws.{one_apart}
+use Rattle.interactive_station.specs.Plans.{CanStation}
 
 -- ---- a client that can succeed
 
@@ -336,12 +337,13 @@ client_follows = record {
 
 pub lost_schedule : IsSchedule lost_plan lost_moves
 lost_schedule = record {
-  start = record { tables = refl; clients = All-from_recursion CanLogOn lost_plan.clients (client_follows, tt) };
+  start = record { tables = refl; clients = All-from_recursion CanLogOn lost_plan.clients (client_follows, tt); stations = All-nil CanStation };
   forms = record {
     tables = All-from_recursion IsTable lost_plan.tables (table_form, tt);
     controllers = All-from_recursion IsName lost_plan.controllers (a_name (codes "PDC") (omega arith) ((omega arith, omega arith), ((omega arith, omega arith), ((omega arith, omega arith), tt))), tt);
     members = All-nil IsMemberPlan;
     clients = All-from_recursion IsClientPlan lost_plan.clients (client_form, tt);
+    stations = All-nil IsStationPlan;
     now = omega arith;
     seed = (refl, All-replicate IsByte 32 0 (omega arith));
   };

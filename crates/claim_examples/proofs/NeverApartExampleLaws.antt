@@ -29,7 +29,7 @@ use Rattle.world_moves.specs.declared.links.EndId.TheVariants.{Controller}
 use Rattle.world_moves.specs.declared.moves.Move.TheVariants as move
 use Rattle.world_moves.specs.declared.plan.Plan.{Plan}
 use Rattle.world_moves.specs.Acting.{keep_by}
-use Rattle.world_moves.specs.Forms.{HasMoveForm, IsAccount, IsByte, IsClientPlan, IsMemberPlan, IsSchedule, IsTable}
+use Rattle.world_moves.specs.Forms.{HasMoveForm, IsAccount, IsByte, IsClientPlan, IsMemberPlan, IsSchedule, IsStationPlan, IsTable}
 use Rattle.world_moves.specs.Moving.{end_of_peer}
 use Rattle.world_moves.specs.World.{IsMove, World, first_ends, kept_by, kept_of}
 use Rattle.world_moves.proofs.AloneLaws.{plain_plan}
@@ -41,6 +41,7 @@ use Rattle.claim_examples.specs.CompletenessExamples.{able_member, able_table, m
 use Rattle.claim_examples.specs.NeverApartExamples.{HasThird, OfBeginnings, OfKeeping, OfNeverApart, OfProvedRun, OfTrying, any_account, any_plan, backup_account, beside_another, both_secrets, change_moves, change_plan, controller_having, crossed_plan, disabled_account, holds_and_kept, letters_plan, member_holding, member_with, new_secret, old_secret, other_secret, plan_by, plan_of, run_to, running_with, second_secret, set_passed, short_secret, state_of, stopped_member, table_with, tried_secrets, two_plan, two_with, without_account}
 use Rattle.claim_examples.specs.ClaimExamples.{keeping_controller, small_account}
 use Rattle.claim_examples.proofs.CompletenessLaws.{a_name, account_form, table_form}
+use Rattle.interactive_station.specs.Plans.{CanStation}
 
 -- ---- the account
 
@@ -611,7 +612,7 @@ file2_named = a_name (codes "FILE2") (omega arith)
 
 change_schedule : IsSchedule two_plan change_moves
 change_schedule = record {
-  start = record { tables = refl; clients = All-nil CanLogOn };
+  start = record { tables = refl; clients = All-nil CanLogOn; stations = All-nil CanStation };
   forms = record {
     tables = All-from_recursion IsTable two_plan.tables (change_table_form 0x33 (omega arith), (change_table_form 0x41 (omega arith), tt));
     controllers = All-from_recursion IsName two_plan.controllers (
@@ -623,6 +624,7 @@ change_schedule = record {
       (member_form (codes "FILE1") 0x41 1 file1_named (omega arith) (omega arith), tt),
     );
     clients = All-nil IsClientPlan;
+    stations = All-nil IsStationPlan;
     now = omega arith;
     seed = (refl, All-replicate IsByte 32 0 (omega arith));
   };
@@ -650,7 +652,7 @@ of_proved_run = record {
   clear = change_clear;
   own = refl;
   begins = second_begins;
-  claimed = λ proved. proved.never_apart (record { controllers = refl; members = (refl, (refl, tt)) }) (inl (plain_plan two_plan refl refl)) change_schedule change_clear refl 1 second_begins;
+  claimed = λ proved. proved.never_apart (record { controllers = refl; members = (refl, (refl, tt)); stations = refl }) (inl (plain_plan two_plan refl refl)) change_schedule change_clear refl 1 second_begins;
 }
 
 -- ---- the member of the run in which ann logs on

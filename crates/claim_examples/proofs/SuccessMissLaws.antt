@@ -3,7 +3,7 @@
 use Rattle.std.proofs.Common.{◌≡◌, ◌≢◌, ℕ, List, [], ◌∷◌, Some, refl, sym, ◌∙◌, subst, arith, inl, inr, zero, suc}
 use Rattle.std.specs.Prelude.{AllPairs}
 use Rattle.std.specs.List.{AllByRecursion}
-use Rattle.std.proofs.lemmas.List.Elements.{All-from_recursion}
+use Rattle.std.proofs.lemmas.List.Elements.{All-from_recursion, All-nil}
 use Rattle.wire_base.specs.Names.{SameName, same_name}
 use Rattle.wire_base.specs.Names as names
 use Rattle.account_table.specs.LookUps.{place_in}
@@ -20,7 +20,7 @@ use Rattle.step_notes.specs.Records.{IfNetwork, Judging}
 use Rattle.controller_calls.specs.declared.calls.JudgedCall.{JudgedCall}
 use Rattle.step_notes.proofs.Controllers.JudgedCallLaws.{network_so, of_network}
 use Rattle.world_moves.specs.declared.moves.Move.TheVariants as move
-use Rattle.world_moves.specs.Forms.{HasMoveForm, IsClientPlan, IsSchedule}
+use Rattle.world_moves.specs.Forms.{HasMoveForm, IsClientPlan, IsSchedule, IsStationPlan}
 use Rattle.world_moves.specs.World.{IsMove, World}
 use Rattle.logon_runs.specs.FirstLogon.ExampleLogon as example
 use Rattle.logon_runs.specs.Scenes.WaitingUnits.{waiting}
@@ -34,6 +34,7 @@ use Rattle.claim_examples.specs.CompletenessExamples.{able_client, able_member, 
 use Rattle.claim_examples.specs.SuccessMisses.{IsOther, LosesKey, OfEachClient, OfMoves, OfOwnKeys, OfSucceeding, SuccessTellsApart, asking_plan, beside_plan, bind_moves, strict_plan, strict_table, two_lost, two_moves}
 use Rattle.claim_examples.proofs.CompletenessLaws.{ann_can, ann_found, ann_may, client_follows, client_form, lost_schedule, machine_found}
 use Rattle.claim_examples.proofs.SequenceLaws.{one_apart}
+use Rattle.interactive_station.specs.Plans.{CanStation}
 
 -- ---- what a client succeeds by
 
@@ -157,12 +158,13 @@ strict_can = record {
 
 two_schedule : IsSchedule two_lost two_moves
 two_schedule = record {
-  start = record { tables = refl; clients = All-from_recursion CanLogOn two_lost.clients (client_follows, (client_follows, tt)) };
+  start = record { tables = refl; clients = All-from_recursion CanLogOn two_lost.clients (client_follows, (client_follows, tt)); stations = All-nil CanStation };
   forms = record {
     tables = lost_schedule.forms.tables;
     controllers = lost_schedule.forms.controllers;
     members = lost_schedule.forms.members;
     clients = All-from_recursion IsClientPlan two_lost.clients (client_form, (client_form, tt));
+    stations = All-nil IsStationPlan;
     now = lost_schedule.forms.now;
     seed = lost_schedule.forms.seed;
   };

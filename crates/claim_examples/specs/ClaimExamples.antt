@@ -103,6 +103,7 @@ small_plan = record {
   controllers = codes "PDC" ∷ [];
   members = small_member ∷ [];
   clients = [];
+  stations = [];
   hands_on = false;
   seals = false;
   now = 0;

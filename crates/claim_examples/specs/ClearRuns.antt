@@ -10,8 +10,8 @@ use Rattle.world_moves.specs.declared.plan.Plan.{Plan}
 use Rattle.world_moves.specs.Choosing.{chosen_place}
 use Rattle.world_moves.specs.Counting.{is_in}
 use Rattle.world_moves.specs.Forms.{HasForms, IsSchedule}
-use Rattle.world_moves.specs.Plain.{NothingSeals}
-use Rattle.world_moves.specs.World.{IsPlan, first_world}
+use Rattle.world_moves.specs.Plain.{IsPlainPlan}
+use Rattle.world_moves.specs.World.{IsPlan, first_world, starters_of}
 use Rattle.logon_runs.specs.FirstLogon.ExampleLogon.{ann_moves, ann_plan}
 use Rattle.logon_runs.specs.FirstLogon.FirstWorlds.{CanComeIn, FirstKeyArrives, logon_moves}
 use Rattle.domain_world.specs.Accepting.Sequences.{RepliesAnswerCalls, TurnsAreCalled}
@@ -59,13 +59,13 @@ pub record MeetsClearClaims (run : Past) : Type 0 where
   pub answered : RepliesAnswerCalls run
   pub never_apart : MembersAreNeverApart run
 
--- The first logon of any plan in which nothing seals runs clear where it comes in and its key arrives. So does the
+-- The first logon of any plain plan runs clear where it comes in and its key arrives. So does the
 -- example: a schedule whose one client is started where nothing is under way, and at whose end nothing is. A channel
 -- stands at both ends then. What is proved of clear schedules holds of the example with no premise left.
 pub record FirstLogonsAreClear : Type 0 where
-  pub first : (plan : Plan) (client member controller number : ℕ) → IsPlan plan → HasForms plan → NothingSeals plan → chosen_place number (length plan.clients) ≡ Some client →
+  pub first : (plan : Plan) (client member controller number : ℕ) → IsPlan plan → HasForms plan → IsPlainPlan plan → chosen_place number (starters_of plan) ≡ Some client →
       (can : CanComeIn plan client member controller) → FirstKeyArrives plan client member controller can → LetsInClearly (past plan (logon_moves number (can.task.echo == 0)))
-  pub stands : (plan : Plan) (client member controller number : ℕ) → IsPlan plan → HasForms plan → chosen_place number (length plan.clients) ≡ Some client →
+  pub stands : (plan : Plan) (client member controller number : ℕ) → IsPlan plan → HasForms plan → chosen_place number (starters_of plan) ≡ Some client →
       (can : CanComeIn plan client member controller) → FirstKeyArrives plan client member controller can → HasSharedChannel (past plan (logon_moves number (can.task.echo == 0)))
   pub schedule : IsSchedule ann_plan ann_moves
   pub ann : LetsInClearly (past ann_plan ann_moves)

@@ -85,6 +85,7 @@ beside_plan = record {
   controllers = codes "PDC" ∷ codes "BDC" ∷ [];
   members = able_member machine_secret ∷ record (able_member machine_secret) { controller = 1 ∷ [] } ∷ [];
   clients = record (able_client small_hash) { server = 2 ∷ [] } ∷ lost_client ∷ [];
+  stations = [];
   hands_on = false;
   seals = false;
   now = 0;

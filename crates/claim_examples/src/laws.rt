@@ -125,9 +125,9 @@ pub fn sessions_tell_apart()
     ensures told { OfStatuses }
 {}
 
-/// Of runs that a world made itself: the first logon of any plan in which nothing seals runs clear where it is granted
-/// and its key arrives, and its member lets in who asked. The run of the example is clear too: its moves are a schedule
-/// in which one client logs on. The claims on clear runs therefore speak of runs that there are.
+/// Of runs that a world made itself: the first logon of any plain plan runs clear where it is granted and its key
+/// arrives, and its member lets in who asked. The run of the example is clear too: its moves are a schedule in which
+/// one client logs on. The claims on clear runs therefore speak of runs that there are.
 #[tactic(auto, using(crate::proofs::Runs::ClearRunLaws::first_logons_are_clear))]
 pub fn a_run_is_clear()
     ensures { FirstLogonsAreClear }

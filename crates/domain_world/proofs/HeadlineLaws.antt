@@ -4,7 +4,7 @@ use Rattle.std.proofs.Common.{List, inl, inr, refl}
 use Rattle.world_moves.specs.declared.moves.Move.{Move}
 use Rattle.world_moves.specs.declared.plan.Plan.{Plan}
 use Rattle.world_moves.specs.Alone.{IsPlainAlone}
-use Rattle.world_moves.specs.Plain.{NothingSeals}
+use Rattle.world_moves.specs.Plain.{IsPlainPlan}
 use Rattle.world_moves.specs.Unforwarded.{IsJudgedAlone, alone_plan}
 use Rattle.world_moves.proofs.AloneLaws.{alone_if}
 use Rattle.domain_world.specs.Headline.{Proved}
@@ -58,7 +58,7 @@ use Rattle.domain_world.proofs.Sequences.ReplyCallLaws.{replies_answer}
 use Rattle.domain_world.proofs.Sequences.SharedRunLaws.{sequences_shared}
 use Rattle.domain_world.proofs.Unforwarded.CarryLaws.{carries_over}
 
--- of a plan that hands nothing on, and in which nothing seals
+-- of a plain plan that hands nothing on
 proved_alone : (plan : Plan) (moves : List Move) → IsPlainAlone plan → IsProvedAlone plan moves
 proved_alone plan moves nobody = record {
   opened_kinds = openings_asked plan moves nobody;
@@ -85,12 +85,12 @@ proved_alone plan moves nobody = record {
   never_apart = λ schedule clear. never_apart plan moves nobody schedule clear;
 }
 
--- of each run in which nothing seals, and calls are judged by the controllers that hear them
-judged_alone : (plan : Plan) (moves : List Move) → NothingSeals plan → IsJudgedAlone plan moves → IsProvedAlone plan moves
+-- of each run of a plain plan in which calls are judged by the controllers that hear them
+judged_alone : (plan : Plan) (moves : List Move) → IsPlainPlan plan → IsJudgedAlone plan moves → IsProvedAlone plan moves
 judged_alone plan moves nothing (inl nobody) = proved_alone plan moves (record { plain = nothing; alone = nobody })
 judged_alone plan moves nothing (inr is) =
     carries_over plan moves nothing is
-    (proved_alone (alone_plan plan) moves (alone_if (alone_plan plan) (record { controllers = nothing.controllers; members = nothing.members }) refl))
+    (proved_alone (alone_plan plan) moves (alone_if (alone_plan plan) (record { controllers = nothing.controllers; members = nothing.members; stations = nothing.stations }) refl))
 
 pub all_proved : (plan : Plan) (moves : List Move) → Proved plan moves
 all_proved plan moves = record {

@@ -3,7 +3,7 @@ use Rattle.std.specs.Prelude.{◌≡◌, List, [], ◌++◌, false}
 use Rattle.world_moves.specs.declared.moves.Move.{Move}
 use Rattle.world_moves.specs.declared.plan.Plan.{Plan}
 use Rattle.world_moves.specs.Forms.{IsSchedule}
-use Rattle.world_moves.specs.Plain.{NothingSeals}
+use Rattle.world_moves.specs.Plain.{IsPlainPlan}
 use Rattle.world_moves.specs.Unforwarded.{IsJudgedAlone}
 use Rattle.world_moves.specs.World.{World, first_world, run}
 use Rattle.domain_world.specs.Accepting.Carried.{MarkedUnitsAreWhole}
@@ -41,93 +41,93 @@ use Rattle.domain_world.specs.Past.{past}
 -- `whole`, `asks_for`, `reply_marks` and `opened_marks` for a schedule alone. `complete` and `one_by_one` ask for
 -- logons one at a time.
 --
--- `NothingSeals` is a premise of each field but `marked`: no controller of the plan can seal, and no member's channel
--- does. Of other runs nothing is claimed yet, since what is written down of an end is read off the machine of one that
--- can't seal.
+-- `IsPlainPlan` is a premise of each field but `marked`: no controller of the plan can seal, no member's channel does,
+-- and no station stands in it. Of other runs nothing is claimed yet, since what is written down of an end is read off
+-- the machine of one that can't seal, and of a station nothing is written down.
 --
 -- A field with the premise `IsJudgedAlone` is of runs in which each call is judged by the controller that hears it: the
 -- plan's controllers aren't to hand logons on, or its tables trust no domain, or no call of the run comes for a trusted
 -- domain and challenges are left at its end. Of other runs it isn't claimed yet. What is written down of a controller
 -- is read off its own step, whether it hands logons on or not (`TrustNotes`), so that what it passes, grants, keeps and
--- tells, and which openings it accepts and by which replies, is claimed of every run in which nothing seals.
+-- tells, and which openings it accepts and by which replies, is claimed of every run of a plain plan.
 pub record Proved (plan : Plan) (moves : List Move) : Type 0 where
   -- challenges, and the messages that are made for them
-  pub challenges : NothingSeals plan → ChallengesServeOnce (past plan moves)
-  pub messages : NothingSeals plan → MessagesHaveOwnChallenges (past plan moves)
-  pub responses : NothingSeals plan → ShortResponsesServeOnce (past plan moves)
-  pub apart : NothingSeals plan → MessagesAreApart (past plan moves)
+  pub challenges : IsPlainPlan plan → ChallengesServeOnce (past plan moves)
+  pub messages : IsPlainPlan plan → MessagesHaveOwnChallenges (past plan moves)
+  pub responses : IsPlainPlan plan → ShortResponsesServeOnce (past plan moves)
+  pub apart : IsPlainPlan plan → MessagesAreApart (past plan moves)
   -- which channels controllers accept and keep, and by which replies
-  pub openings : NothingSeals plan → OpeningsAreInOrder (past plan moves)
+  pub openings : IsPlainPlan plan → OpeningsAreInOrder (past plan moves)
   -- of which types channels are, and which calls are handed on by their channel's type; and which types members and
   -- controllers open
-  pub kinds : NothingSeals plan → KindsFollowOpenings (past plan moves)
-  pub askers : NothingSeals plan → AskersNameTheirKind (past plan moves)
-  pub opened_kinds : NothingSeals plan → IsJudgedAlone plan moves → IsSchedule plan moves → OpeningsNameTheirKind (past plan moves)
-  pub opened : NothingSeals plan → RepliesAnswerOpenings (past plan moves)
+  pub kinds : IsPlainPlan plan → KindsFollowOpenings (past plan moves)
+  pub askers : IsPlainPlan plan → AskersNameTheirKind (past plan moves)
+  pub opened_kinds : IsPlainPlan plan → IsJudgedAlone plan moves → IsSchedule plan moves → OpeningsNameTheirKind (past plan moves)
+  pub opened : IsPlainPlan plan → RepliesAnswerOpenings (past plan moves)
   -- each reply that accepts an opening answers one of its channel, with its number, accepted at the step that sent it
-  pub opened_by : NothingSeals plan → IsJudgedAlone plan moves → IsSchedule plan moves → (past plan moves).book.clash ≡ false → RepliesAreToOpenings (past plan moves)
+  pub opened_by : IsPlainPlan plan → IsJudgedAlone plan moves → IsSchedule plan moves → (past plan moves).book.clash ≡ false → RepliesAreToOpenings (past plan moves)
   -- openings and calls on a channel have different numbers
-  pub numbers : NothingSeals plan → IsJudgedAlone plan moves → IsSchedule plan moves → RequestsHaveNumbers (past plan moves)
+  pub numbers : IsPlainPlan plan → IsJudgedAlone plan moves → IsSchedule plan moves → RequestsHaveNumbers (past plan moves)
   -- what controllers judge, grant and answer
-  pub credentials : NothingSeals plan → PassesTheNextCredential (past plan moves)
-  pub alone : NothingSeals plan → TellsOfForwards (past plan moves)
-  pub replays : NothingSeals plan → ReplaysBySum (past plan moves)
-  pub unclashed : NothingSeals plan → PassesAreUnclashed (past plan moves)
-  pub grants : NothingSeals plan → GrantsWhoMayLogOn (past plan moves)
-  pub let_on : NothingSeals plan → GrantsWhoseHashIsStored (past plan moves)
-  pub statuses : NothingSeals plan → StatusesAreTold (past plan moves)
-  pub tables : NothingSeals plan → TablesFollowVerdicts (past plan moves)
-  pub sessions : NothingSeals plan → SessionsFollow (past plan moves) (renewals moves (first_world plan) [])
-  pub replies : NothingSeals plan → RepliesAreOfTheirCalls (past plan moves)
-  pub answered : NothingSeals plan → IsJudgedAlone plan moves → IsSchedule plan moves → (past plan moves).book.clash ≡ false → RepliesAnswerCalls (past plan moves)
+  pub credentials : IsPlainPlan plan → PassesTheNextCredential (past plan moves)
+  pub alone : IsPlainPlan plan → TellsOfForwards (past plan moves)
+  pub replays : IsPlainPlan plan → ReplaysBySum (past plan moves)
+  pub unclashed : IsPlainPlan plan → PassesAreUnclashed (past plan moves)
+  pub grants : IsPlainPlan plan → GrantsWhoMayLogOn (past plan moves)
+  pub let_on : IsPlainPlan plan → GrantsWhoseHashIsStored (past plan moves)
+  pub statuses : IsPlainPlan plan → StatusesAreTold (past plan moves)
+  pub tables : IsPlainPlan plan → TablesFollowVerdicts (past plan moves)
+  pub sessions : IsPlainPlan plan → SessionsFollow (past plan moves) (renewals moves (first_world plan) [])
+  pub replies : IsPlainPlan plan → RepliesAreOfTheirCalls (past plan moves)
+  pub answered : IsPlainPlan plan → IsJudgedAlone plan moves → IsSchedule plan moves → (past plan moves).book.clash ≡ false → RepliesAnswerCalls (past plan moves)
   -- what members ask, and whom they let in
-  pub kept : NothingSeals plan → MembersAskForKept (past plan moves)
-  pub asked : NothingSeals plan → MembersAskForMessages (past plan moves)
-  pub sends : NothingSeals plan → SendsAskForMessages (past plan moves)
-  pub let_in : NothingSeals plan → LetsInWhoAsked (past plan moves)
-  pub written : NothingSeals plan → MembersAreWrittenDown (past plan moves)
-  pub names : NothingSeals plan → IsJudgedAlone plan moves → IsSchedule plan moves → (past plan moves).book.clash ≡ false → LetsInByName (past plan moves)
+  pub kept : IsPlainPlan plan → MembersAskForKept (past plan moves)
+  pub asked : IsPlainPlan plan → MembersAskForMessages (past plan moves)
+  pub sends : IsPlainPlan plan → SendsAskForMessages (past plan moves)
+  pub let_in : IsPlainPlan plan → LetsInWhoAsked (past plan moves)
+  pub written : IsPlainPlan plan → MembersAreWrittenDown (past plan moves)
+  pub names : IsPlainPlan plan → IsJudgedAlone plan moves → IsSchedule plan moves → (past plan moves).book.clash ≡ false → LetsInByName (past plan moves)
   -- what a member keeps with a message is read of the bytes that are written down, of it and of its link's CHALLENGE
-  pub as_sent : NothingSeals plan → MessagesAreTakenAsSent (past plan moves)
+  pub as_sent : IsPlainPlan plan → MessagesAreTakenAsSent (past plan moves)
   -- what clients make, and keep
-  pub made : NothingSeals plan → MessagesAreOfTheirClients (past plan moves)
-  pub clients : NothingSeals plan → ClientsAreWrittenDown (past plan moves)
+  pub made : IsPlainPlan plan → MessagesAreOfTheirClients (past plan moves)
+  pub clients : IsPlainPlan plan → ClientsAreWrittenDown (past plan moves)
   -- each message that a client made is the answer of its plan to the CHALLENGE that is written down with it
-  pub as_made : NothingSeals plan → IsSchedule plan moves → MessagesAreMade (past plan moves)
+  pub as_made : IsPlainPlan plan → IsSchedule plan moves → MessagesAreMade (past plan moves)
   -- a member accepts exactly what its controller granted, client and member hold one key, a call raises a count of bad
   -- passwords at most once, and a response of 24 bytes lets in once
-  pub only : NothingSeals plan → IsJudgedAlone plan moves → IsSchedule plan moves → IsClear (past plan moves).book → AcceptsOnlyGranted (past plan moves)
-  pub all : NothingSeals plan → IsJudgedAlone plan moves → IsSchedule plan moves → IsClear (past plan moves).book → AcceptsAllGranted (past plan moves)
-  pub keys : NothingSeals plan → IsJudgedAlone plan moves → IsSchedule plan moves → IsClear (past plan moves).book → KeysAgree (past plan moves)
-  pub counts : NothingSeals plan → IsJudgedAlone plan moves → IsSchedule plan moves → IsClear (past plan moves).book → EachCallRaisesOnce (past plan moves)
-  pub once : NothingSeals plan → IsJudgedAlone plan moves → IsSchedule plan moves → IsClear (past plan moves).book → ShortResponsesLetInOnce (past plan moves)
+  pub only : IsPlainPlan plan → IsJudgedAlone plan moves → IsSchedule plan moves → IsClear (past plan moves).book → AcceptsOnlyGranted (past plan moves)
+  pub all : IsPlainPlan plan → IsJudgedAlone plan moves → IsSchedule plan moves → IsClear (past plan moves).book → AcceptsAllGranted (past plan moves)
+  pub keys : IsPlainPlan plan → IsJudgedAlone plan moves → IsSchedule plan moves → IsClear (past plan moves).book → KeysAgree (past plan moves)
+  pub counts : IsPlainPlan plan → IsJudgedAlone plan moves → IsSchedule plan moves → IsClear (past plan moves).book → EachCallRaisesOnce (past plan moves)
+  pub once : IsPlainPlan plan → IsJudgedAlone plan moves → IsSchedule plan moves → IsClear (past plan moves).book → ShortResponsesLetInOnce (past plan moves)
   -- at most one turn is out at a member, and at a controller over all its trusts; the seed of a member's channel is
   -- moved by its turns. The ends of a channel share its sequence, and the calls on it are those of its turns, of which
   -- each that ended passed
-  pub one_turn : NothingSeals plan → OneTurnIsOut (past plan moves)
-  pub own : NothingSeals plan → SequencesAreOwn (past plan moves)
-  pub sequences : NothingSeals plan → IsJudgedAlone plan moves → IsSchedule plan moves → IsClear (past plan moves).book → SequencesAreShared (past plan moves)
-  pub called : NothingSeals plan → IsJudgedAlone plan moves → IsSchedule plan moves → IsClear (past plan moves).book → TurnsAreCalled (past plan moves)
+  pub one_turn : IsPlainPlan plan → OneTurnIsOut (past plan moves)
+  pub own : IsPlainPlan plan → SequencesAreOwn (past plan moves)
+  pub sequences : IsPlainPlan plan → IsJudgedAlone plan moves → IsSchedule plan moves → IsClear (past plan moves).book → SequencesAreShared (past plan moves)
+  pub called : IsPlainPlan plan → IsJudgedAlone plan moves → IsSchedule plan moves → IsClear (past plan moves).book → TurnsAreCalled (past plan moves)
   -- the units of the bag, and which way they go
   pub marked : EachUnitIsMarked (past plan moves)
-  pub ways : NothingSeals plan → MarksHaveTheirWay (past plan moves)
+  pub ways : IsPlainPlan plan → MarksHaveTheirWay (past plan moves)
   -- each that was made for a channel is one whole unit, and has the number of its mark
-  pub whole : NothingSeals plan → IsJudgedAlone plan moves → IsSchedule plan moves → MarkedUnitsAreWhole (past plan moves)
+  pub whole : IsPlainPlan plan → IsJudgedAlone plan moves → IsSchedule plan moves → MarkedUnitsAreWhole (past plan moves)
   -- A message whose answer was taken has a call. What was judged in the unit of a message's call is a network logon
   -- that asks what the message asks.
-  pub have_calls : NothingSeals plan → AnswersHaveCalls (past plan moves)
-  pub asks_for : NothingSeals plan → IsJudgedAlone plan moves → IsSchedule plan moves → CallsAskForMessages (past plan moves)
+  pub have_calls : IsPlainPlan plan → AnswersHaveCalls (past plan moves)
+  pub asks_for : IsPlainPlan plan → IsJudgedAlone plan moves → IsSchedule plan moves → CallsAskForMessages (past plan moves)
   -- The call of each message is marked as one. The reply to a call that passed, or to an opening that was accepted, is
   -- marked as that.
-  pub call_marks : NothingSeals plan → CallsAreMarked (past plan moves)
-  pub reply_marks : NothingSeals plan → IsJudgedAlone plan moves → IsSchedule plan moves → RepliesAreMarked (past plan moves)
-  pub opened_marks : NothingSeals plan → IsJudgedAlone plan moves → IsSchedule plan moves → OpeningsAreMarked (past plan moves)
+  pub call_marks : IsPlainPlan plan → CallsAreMarked (past plan moves)
+  pub reply_marks : IsPlainPlan plan → IsJudgedAlone plan moves → IsSchedule plan moves → RepliesAreMarked (past plan moves)
+  pub opened_marks : IsPlainPlan plan → IsJudgedAlone plan moves → IsSchedule plan moves → OpeningsAreMarked (past plan moves)
   -- Logons that come one at a time succeed where they can, at members that have their own computers. Whatever they come
   -- to, no credential clashes at members that have their accounts' secrets, if they have accounts, and their own names.
-  pub complete : NothingSeals plan → IsJudgedAlone plan moves → EachSucceeds (past plan moves) moves
-  pub one_by_one : NothingSeals plan → IsJudgedAlone plan moves → NoneClashes (past plan moves) moves
+  pub complete : IsPlainPlan plan → IsJudgedAlone plan moves → EachSucceeds (past plan moves) moves
+  pub one_by_one : IsPlainPlan plan → IsJudgedAlone plan moves → NoneClashes (past plan moves) moves
   -- Where no call from outside set a secret, no loss and no restart leaves a member and its controller apart.
-  pub never_apart : NothingSeals plan → IsJudgedAlone plan moves → IsSchedule plan moves → IsClear (past plan moves).book → MembersAreNeverApart (past plan moves)
+  pub never_apart : IsPlainPlan plan → IsJudgedAlone plan moves → IsSchedule plan moves → IsClear (past plan moves).book → MembersAreNeverApart (past plan moves)
 
 -- What is claimed of each schedule: a plan of which a world can be made, with the forms of its types, and at most
 -- 100,000 moves that it can make.

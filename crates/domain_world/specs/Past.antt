@@ -27,7 +27,7 @@ use Rattle.step_notes.specs.Records.{Book, CallTaken, ChannelAccepted, ChannelTu
 use Rattle.step_notes.specs.TrustNotes.{asking_note, asking_units, calls_handed, forwards_at, places_handed, trust_answers_of}
 use Rattle.world_moves.specs.declared.bag.BagUnit.{BagUnit}
 use Rattle.world_moves.specs.declared.links.EndId.{EndId}
-use Rattle.world_moves.specs.declared.links.EndId.TheVariants.{Controller, Member, Client}
+use Rattle.world_moves.specs.declared.links.EndId.TheVariants.{Controller, Member, Client, Station}
 use Rattle.world_moves.specs.declared.moves.Move.{Move}
 use Rattle.world_moves.specs.declared.moves.Move.TheVariants as move
 use Rattle.world_moves.specs.declared.plan.Plan.{Plan}
@@ -355,6 +355,7 @@ note_at None w piece s after b = b
 note_at (Some (Controller at)) w piece s after b = note_controller (slice_get s.ends.controllers at) at w piece s after b
 note_at (Some (Member at)) w piece s after b = note_member (slice_get s.ends.members at) at w piece s after b
 note_at (Some (Client at)) w piece s after b = note_client (slice_get s.ends.clients at) at w piece s b
+note_at (Some (Station at)) w piece s after b = b
 
 -- a piece comes: what it comes to at the end that hears it
 abbrev pub note_piece : Delivery → List ℕ → State → State → Book → Book

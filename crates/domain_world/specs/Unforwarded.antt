@@ -4,7 +4,7 @@ use Rattle.std.specs.Prelude.{◌≡◌, false, List}
 use Rattle.world_moves.specs.declared.moves.Move.{Move}
 use Rattle.world_moves.specs.declared.plan.Plan.{Plan}
 use Rattle.world_moves.specs.Forms.{IsSchedule}
-use Rattle.world_moves.specs.Plain.{NothingSeals}
+use Rattle.world_moves.specs.Plain.{IsPlainPlan}
 use Rattle.world_moves.specs.Unforwarded.{IsUnforwarded, alone_plan}
 use Rattle.domain_world.specs.Accepting.Answered.{CallsAskForMessages}
 use Rattle.domain_world.specs.Accepting.Carried.{MarkedUnitsAreWhole}
@@ -22,14 +22,14 @@ use Rattle.domain_world.specs.Claims.SharedSequences.{SequencesAreShared}
 use Rattle.domain_world.specs.Claims.{AcceptsAllGranted, AcceptsOnlyGranted, IsClear, KeysAgree, ShortResponsesLetInOnce}
 use Rattle.domain_world.specs.Past.{past}
 
--- What is written down of a run in which nothing seals and no call comes for a trusted domain is what is written down
--- of the run of the plan whose controllers ask nobody.
+-- What is written down of a run of a plain plan in which no call comes for a trusted domain is what is written down of
+-- the run of the plan whose controllers ask nobody.
 abbrev pub BooksAlone : Type 0
-BooksAlone = (plan : Plan) (moves : List Move) → NothingSeals plan → IsUnforwarded plan moves →
+BooksAlone = (plan : Plan) (moves : List Move) → IsPlainPlan plan → IsUnforwarded plan moves →
     (past (alone_plan plan) moves).book ≡ (past plan moves).book
 
--- What is proved of runs in which nothing seals, and each call is judged by the controller that hears it. The rest of
--- what is proved of runs in which nothing seals is of each of them (`Proved`).
+-- What is proved of runs of plain plans in which each call is judged by the controller that hears it. The rest of
+-- what is proved of runs of plain plans is of each of them (`Proved`).
 pub record IsProvedAlone (plan : Plan) (moves : List Move) : Type 0 where
   pub opened_kinds : IsSchedule plan moves → OpeningsNameTheirKind (past plan moves)
   pub opened_by : IsSchedule plan moves → (past plan moves).book.clash ≡ false → RepliesAreToOpenings (past plan moves)
@@ -51,7 +51,7 @@ pub record IsProvedAlone (plan : Plan) (moves : List Move) : Type 0 where
   pub one_by_one : NoneClashes (past plan moves) moves
   pub never_apart : IsSchedule plan moves → IsClear (past plan moves).book → MembersAreNeverApart (past plan moves)
 
--- What `IsProvedAlone` says holds of a run in which nothing seals, no call comes for a trusted domain and challenges
+-- What `IsProvedAlone` says holds of a run of a plain plan in which no call comes for a trusted domain and challenges
 -- are left at the end, where it holds of the run of the plan whose controllers ask nobody.
 abbrev pub CarriesOver : Type 0
-CarriesOver = (plan : Plan) (moves : List Move) → NothingSeals plan → IsUnforwarded plan moves → IsProvedAlone (alone_plan plan) moves → IsProvedAlone plan moves
+CarriesOver = (plan : Plan) (moves : List Move) → IsPlainPlan plan → IsUnforwarded plan moves → IsProvedAlone (alone_plan plan) moves → IsProvedAlone plan moves

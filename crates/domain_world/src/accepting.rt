@@ -1,4 +1,5 @@
-//! What a run's answers rest on, where nothing seals. What looks at controllers is said of plans that hand nothing on.
+//! What a run's answers rest on, where the plan is plain. What looks at controllers is said of plans that hand nothing
+//! on.
 
 ghost use Rattle.std.specs.Prelude.{List};
 ghost use Rattle.world_moves.specs.declared.moves.Move.{Move};
@@ -7,13 +8,13 @@ ghost use Rattle.world_moves.specs.Alone.{IsPlainAlone};
 ghost use Rattle.world_moves.specs.Bag.{AreShortUnits, HaveBytes};
 ghost use Rattle.world_moves.specs.Draws.{DrawsAreBlocks, DrawsDiffer};
 ghost use Rattle.world_moves.specs.Forms.{IsSchedule};
-ghost use Rattle.world_moves.specs.Plain.{NothingSeals};
+ghost use Rattle.world_moves.specs.Plain.{IsPlainPlan};
 ghost use Rattle.world_moves.specs.World.{first_world, run};
-ghost use Rattle.domain_world.specs.Accepting.Answered.{AnswersAreHeard, IsProved};
+ghost use Rattle.domain_world.specs.Accepting.Answered.{AnswersAreHeard, AnswersAreJudged};
 ghost use Rattle.domain_world.specs.Accepting.Carried.{CarriedCallsAreHeard, JudgedAsCarried, MarkedUnitsAreWhole, MessagesAreCalled};
 ghost use Rattle.domain_world.specs.Accepting.KeysMade.{KeysAreFoundAsMade, MessagesAreMade, MessagesAreTakenAsSent};
 ghost use Rattle.domain_world.specs.Accepting.ReadBack.{OutcomesAreReadBack, RepliesAreReadBack, TurnsAreHeard};
-ghost use Rattle.domain_world.specs.Accepting.Runs.{IsQuiet, RunsBegin, RunsStandSo};
+ghost use Rattle.domain_world.specs.Accepting.Runs.{NothingIsOpen, RunsBegin, RunsStandSo};
 ghost use Rattle.domain_world.specs.Accepting.Sequences.{CallsAreStamped, SequencesFollow, TakenCallsPass};
 ghost use Rattle.domain_world.specs.Accepting.Units.{RunsAreHeard, UnitsAreHeard};
 ghost use Rattle.domain_world.specs.Claims.{AcceptsAllGranted, AcceptsOnlyGranted, IsClear, KeysAgree};
@@ -24,19 +25,19 @@ ghost use Rattle.domain_world.specs.Schedules.{OfSchedules};
 /// controller granted, and all of it, and client and member hold one key.
 #[tactic(auto, using(crate::proofs::Acceptance::AnsweredLaws::accepts_only, crate::proofs::Acceptance::AnsweredLaws::accepts_all, crate::proofs::Acceptance::AnsweredLaws::keys_agree))]
 pub fn what_is_heard_is_accepted()
-    ensures only { (past : Past) → IsProved past → AnswersAreHeard past → IsClear past.book →
-        AcceptsOnlyGranted past }
-    ensures all { (past : Past) → IsProved past → AnswersAreHeard past → IsClear past.book →
-        AcceptsAllGranted past }
-    ensures keys { (past : Past) → IsProved past → AnswersAreHeard past → IsClear past.book →
-        KeysAgree past }
+    ensures only { (past : Past) → AnswersAreJudged past → AnswersAreHeard past →
+        IsClear past.book → AcceptsOnlyGranted past }
+    ensures all { (past : Past) → AnswersAreJudged past → AnswersAreHeard past →
+        IsClear past.book → AcceptsAllGranted past }
+    ensures keys { (past : Past) → AnswersAreJudged past → AnswersAreHeard past →
+        IsClear past.book → KeysAgree past }
 {}
 
-/// In every run whose draws differ, of a plan that hands nothing on and in which nothing seals, what is proved of runs
-/// holds.
+/// In every run whose draws differ, of a plain plan that hands nothing on, calls are judged and answered as is claimed,
+/// messages are made for challenges of their own, and each unit has its mark.
 pub fn runs_are_proved()
     ensures { (plan : Plan) (moves : List Move) → IsPlainAlone plan →
-        DrawsDiffer (past plan moves).world → IsProved (past plan moves) }
+        DrawsDiffer (past plan moves).world → AnswersAreJudged (past plan moves) }
 {}
 
 /// Three of the premises of the claims on answers follow from what is said of single units and messages: units are
@@ -75,19 +76,19 @@ pub fn runs_begin()
     ensures { RunsBegin }
 {}
 
-/// In every schedule in which nothing seals each AUTHENTICATE that a client made is the answer of its plan to the
+/// In every schedule of a plain plan each AUTHENTICATE that a client made is the answer of its plan to the
 /// CHALLENGE that it read, and is read again as it was made.
 #[tactic(auto, using(crate::proofs::Messages::MessageMadeLaws::messages_made))]
 pub fn messages_are_made()
-    ensures { (plan : Plan) (moves : List Move) → NothingSeals plan → IsSchedule plan moves →
+    ensures { (plan : Plan) (moves : List Move) → IsPlainPlan plan → IsSchedule plan moves →
         MessagesAreMade (past plan moves) }
 {}
 
-/// In every run in which nothing seals a member keeps the AUTHENTICATE that it read, the challenge of the one CHALLENGE
+/// In every run of a plain plan a member keeps the AUTHENTICATE that it read, the challenge of the one CHALLENGE
 /// that it sent on the link, and the flags that both have.
 #[tactic(auto, using(crate::proofs::Messages::MessageTakenLaws::messages_taken))]
 pub fn messages_are_taken_as_sent()
-    ensures { (plan : Plan) (moves : List Move) → NothingSeals plan →
+    ensures { (plan : Plan) (moves : List Move) → IsPlainPlan plan →
         MessagesAreTakenAsSent (past plan moves) }
 {}
 
@@ -103,7 +104,7 @@ pub fn schedules_send_bytes()
 /// between them.
 #[tactic(auto, using(crate::proofs::Quiet::QuietRunLaws::stands_quiet))]
 pub fn schedules_stand_quiet()
-    ensures { OfSchedules (λ plan moves. IsQuiet (past plan moves).world.state) }
+    ensures { OfSchedules (λ plan moves. NothingIsOpen (past plan moves).world.state) }
 {}
 
 /// After every schedule the unit of the bag that the call of a message names is one whole NetrLogonSamLogon (MS-NRPC

@@ -4,7 +4,7 @@ ghost use Rattle.std.specs.Prelude.{List};
 ghost use Rattle.world_moves.specs.declared.moves.Move.{Move};
 ghost use Rattle.world_moves.specs.declared.plan.Plan.{Plan};
 ghost use Rattle.world_moves.specs.Alone.{HandsNothingOn};
-ghost use Rattle.world_moves.specs.Plain.{NothingSeals};
+ghost use Rattle.world_moves.specs.Plain.{IsPlainPlan};
 ghost use Rattle.domain_world.specs.Claims.AcceptedOpenings.{KeptAreLast, MembersOpenInOrder, OpeningsAreMade};
 ghost use Rattle.domain_world.specs.Claims.ChannelKinds.{KindsDecide};
 ghost use Rattle.domain_world.specs.Claims.Hashes.{HashesFollowSets};
@@ -44,35 +44,35 @@ pub fn members_keep_what_they_hold()
     ensures { OfSchedules (λ plan moves. MembersKeepWhatTheyHold (past plan moves)) }
 {}
 
-/// In every run in which nothing seals each member opens its channel under the secret that it tries, and its call that
+/// In every run of a plain plan each member opens its channel under the secret that it tries, and its call that
 /// sets a secret sets its next one.
 #[tactic(auto, using(crate::proofs::Apart::TriedLaws::members_try))]
 pub fn members_try_their_secrets()
-    ensures { (plan : Plan) (moves : List Move) → NothingSeals plan →
+    ensures { (plan : Plan) (moves : List Move) → IsPlainPlan plan →
         MembersTryTheirSecrets (past plan moves) }
 {}
 
-/// In every run in which nothing seals the hash of each account of a controller is the one that a NetrServerPasswordSet
+/// In every run of a plain plan the hash of each account of a controller is the one that a NetrServerPasswordSet
 /// set last which passed there (MS-NRPC 3.5.4.4.6), or that of the plan. A call sets what its bytes show under the key
 /// of its channel, for the machine's account that it names.
 #[tactic(auto, using(crate::proofs::Judgements::HashLaws::hashes_follow))]
 pub fn hashes_follow_sets()
-    ensures { (plan : Plan) (moves : List Move) → NothingSeals plan →
+    ensures { (plan : Plan) (moves : List Move) → IsPlainPlan plan →
         HashesFollowSets (past plan moves) }
 {}
 
-/// The controller of a member has its computer's account at every state of a run of a plan that hands nothing on, and
-/// in which nothing seals. Where a run came to happenings for the two, each of which might happen, as a secret that is
+/// The controller of a member has its computer's account at every state of a run of a plain plan that hands nothing
+/// on. Where a run came to happenings for the two, each of which might happen, as a secret that is
 /// taken is one that the member holds, they are not apart.
 #[tactic(auto, using(crate::proofs::Apart::HappeningLaws::never_apart_by))]
 pub fn happenings_leave_no_two_apart()
     ensures { NeverApartByHappenings }
 {}
 
-/// In every run in which nothing seals what a controller keeps for a computer is what it accepted last for it, among
+/// In every run of a plain plan what a controller keeps for a computer is what it accepted last for it, among
 /// all that were accepted.
 pub fn kept_channels_are_last()
-    ensures { (plan : Plan) (moves : List Move) → NothingSeals plan →
+    ensures { (plan : Plan) (moves : List Move) → IsPlainPlan plan →
         KeptAreLast (past plan moves) }
 {}
 
@@ -107,14 +107,14 @@ pub fn members_step_in_order()
     ensures { MembersStepInOrder }
 {}
 
-/// A run in which nothing seals, no call comes for a trusted domain and challenges are left at the end is that of the
+/// A run of a plain plan in which no call comes for a trusted domain and challenges are left at the end is that of the
 /// plan whose controllers aren't to hand logons on, but for what controllers keep of those that they could ask.
 #[tactic(auto, using(crate::proofs::Unforwarded::ErasedLaws::runs_alone))]
 pub fn what_is_not_handed_on_runs_alone()
     ensures { RunsAlone }
 {}
 
-/// What is written down of a run in which nothing seals, no call comes for a trusted domain and challenges are left at
+/// What is written down of a run of a plain plan in which no call comes for a trusted domain and challenges are left at
 /// the end is what is written down of the run of the plan whose controllers aren't to hand logons on.
 #[tactic(auto, using(crate::proofs::Unforwarded::ErasedBookLaws::books_alone))]
 pub fn what_is_not_handed_on_is_written_alike()
@@ -135,7 +135,7 @@ pub fn what_is_proved_alone_is_carried_over()
 {}
 
 /// All that is proved of runs holds of the run of every list of moves from any plan. Each field but `marked` is of
-/// plans in which nothing seals. What most say is of runs in which each call is judged by the controller that hears it:
+/// plain plans. What most say is of runs in which each call is judged by the controller that hears it:
 /// the plan hands nothing on, or no call comes for a trusted domain and challenges are left at the end.
 pub fn claims_hold_of_runs()
     ensures { (plan : Plan) (moves : List Move) → Proved plan moves }

@@ -5,7 +5,7 @@ ghost use Rattle.world_moves.specs.declared.moves.Move.{Move};
 ghost use Rattle.world_moves.specs.declared.plan.Plan.{Plan};
 ghost use Rattle.world_moves.specs.Counting.{AreCounted};
 ghost use Rattle.world_moves.specs.Forms.{IsSchedule};
-ghost use Rattle.world_moves.specs.World.{IsMove, IsPlan, actions_of_run, first_world, move_limit, report_of, report_of_run, run, run_of};
+ghost use Rattle.world_moves.specs.World.{IsMove, IsPlan, counted_of_run, first_world, move_limit, report_of, report_of_run, run, run_of};
 ghost use Rattle.domain_world.specs.Driving.{IsCutShort};
 ghost use Rattle.domain_world.specs.Headline.{OfItsRun, Proved};
 
@@ -59,7 +59,7 @@ pub fn drive(alloc: Global, world: &mut World, moves: &Moves) -> Result<Report, 
     // Of moves that are cut short those that were made are counted, and clients have their outcomes of then.
     ensures kept { OnErr result (IsCutShort moves.now world.old world.new) }
     // Where the world is that of earlier moves from a plan, it is afterwards that of all moves, the earlier ones and
-    // these, and what was counted are the actions that its ends gave.
+    // these, and what was counted are the actions that its controllers and members gave.
     ensures from_plan { OnOk result ((plan : Plan) (earlier : List Move) →
         world.old ≡ run earlier (first_world plan) →
         world.new ≡ run (earlier ++ moves.now) (first_world plan)) }
@@ -70,7 +70,7 @@ pub fn drive(alloc: Global, world: &mut World, moves: &Moves) -> Result<Report, 
     // that were made.
     ensures fits { IfOk result (λ report. (plan : Plan) (earlier : List Move) →
         world.old ≡ run earlier (first_world plan) →
-        AreCounted report (actions_of_run (run_of (earlier ++ moves.now) (first_world plan)))
+        AreCounted report (counted_of_run (run_of (earlier ++ moves.now) (first_world plan)))
         (length (earlier ++ moves.now))) }
     // What is proved of every run holds of the one that made the world, from a plan on, with these moves behind it.
     ensures proved { OnOk result (OfItsRun world.old moves.now Proved) }

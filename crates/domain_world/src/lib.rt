@@ -24,5 +24,6 @@ pub use claims::{
 };
 pub use driving::{drive, drive_from};
 pub use world_moves::{
-    ClientPlans, MemberPlans, Move, Moves, Plan, Report, Tables, World, WorldRefused, moves_from,
+    ClientPlans, MemberPlans, Move, Moves, Plan, Report, StationPlans, Tables, World, WorldRefused,
+    moves_from,
 };

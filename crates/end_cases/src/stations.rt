@@ -19,7 +19,7 @@ fn names(alloc: Global, words: &[&str]) -> anyhow::Result<(Units, Units)> {
 }
 
 /// The plan of a line: the controller's address, the computer and its secret, the names, and the hash.
-fn plan(alloc: Global, words: &[&str]) -> anyhow::Result<StationPlan> {
+pub(crate) fn plan(alloc: Global, words: &[&str]) -> anyhow::Result<StationPlan> {
     let controller = blob(alloc, word(words, 1))?;
     let computer = name(alloc, word(words, 2))?;
     let secret = sixteen(word(words, 3))?;
@@ -36,7 +36,7 @@ fn plan(alloc: Global, words: &[&str]) -> anyhow::Result<StationPlan> {
 }
 
 /// Whether a station can follow the plan.
-fn can_station(plan: &StationPlan) -> bool
+pub(crate) fn can_station(plan: &StationPlan) -> bool
     ensures { result ≡ true → CanStation plan.now }
 {
     plan.domain.units().len() <= 64 && plan.user.units().len() <= 64

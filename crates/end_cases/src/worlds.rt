@@ -1,15 +1,17 @@
 //! Cases of `domain_world`: a world of a plan and its moves, a run a line, and the moves that a number makes.
 
 ghost use Rattle.std.specs.Prelude.{◌≡◌, ◌≤◌, true, length, All};
+ghost use Rattle.interactive_station.specs.Plans.{CanStation};
 ghost use Rattle.logon_client.specs.Plans.{CanLogOn};
 ghost use Rattle.domain_world.specs.World.{IsMove, IsPlan};
 
-use crate::clients;
 use crate::controllers::table;
 use crate::members::{self, name};
+use crate::{clients, stations};
 use case_words::{add_debug, blob, debug_text, no_case, number, number64, sixteen, word};
 use domain_world::{
-    ClientPlans, MemberPlans, Move, Moves, Plan, Report, Tables, World, drive, moves_from,
+    ClientPlans, MemberPlans, Move, Moves, Plan, Report, StationPlans, Tables, World, drive,
+    moves_from,
 };
 use std::alloc::Global;
 use wire_base::Names;
@@ -43,6 +45,13 @@ fn put_client(alloc: Global, plan: &mut Plan, parts: &[&str]) -> anyhow::Result<
     Ok(())
 }
 
+/// Puts the station of the parts `station CONTROLLER COMPUTER SECRET DOMAIN USER HASH`.
+fn put_station(alloc: Global, plan: &mut Plan, parts: &[&str]) -> anyhow::Result<()> {
+    let station = stations::plan(alloc, parts)?;
+    plan.stations.push(station)?;
+    Ok(())
+}
+
 /// Puts what these parts say of a plan, where they do: an end, the moment as `now MOMENT`, `trusting`, that its
 /// controllers hand logons on, or `sealing`, that they can seal.
 fn put_parts(alloc: Global, plan: &mut Plan, parts: &[&str]) -> anyhow::Result<()> {
@@ -50,6 +59,7 @@ fn put_parts(alloc: Global, plan: &mut Plan, parts: &[&str]) -> anyhow::Result<(
         "controller" => put_controller(alloc, plan, parts),
         "member" => put_member(alloc, plan, parts),
         "client" => put_client(alloc, plan, parts),
+        "station" => put_station(alloc, plan, parts),
         "now" => {
             plan.now = number64(word(parts, 1))?;
             Ok(())
@@ -80,6 +90,7 @@ fn empty_plan(alloc: Global) -> Plan {
         controllers: Names::new(alloc),
         members: MemberPlans::new(alloc),
         clients: ClientPlans::new(alloc),
+        stations: StationPlans::new(alloc),
         hands_on: false,
         seals: false,
         now: 0,
@@ -197,6 +208,24 @@ fn can_log_on(plans: &ClientPlans) -> bool
     plans.items().iter().all(|plan| clients::can_log_on(plan))
 }
 
+/// Whether each station can follow its plan.
+fn can_station(plans: &StationPlans) -> bool
+    ensures { result ≡ true → All CanStation plans.now }
+{
+    plans.items().iter().all(|plan| stations::can_station(plan))
+}
+
+/// What an answer tells of a world besides its report.
+#[derive(Clone, Copy)]
+enum Tells {
+    /// The outcomes of the clients at the first four places.
+    Clients,
+    /// The outcomes of the clients at the first four places, and what the members at the first two places keep.
+    Kept,
+    /// The outcomes of the stations at the first four places.
+    Stations,
+}
+
 /// The report, and the outcomes of the clients at the first four places.
 fn text_of_world(alloc: Global, world: &World, report: &Report) -> anyhow::Result<String> {
     let mut answers = debug_text(alloc, report)?;
@@ -215,31 +244,42 @@ fn text_with_kept(alloc: Global, world: &World, report: &Report) -> anyhow::Resu
     Ok(answers)
 }
 
-/// The report of a world of the plan, driven by the moves, and the outcomes of the clients at the first four places;
-/// also what its members keep, where that is told.
-fn play(alloc: Global, plan: Plan, moves: &Moves, tells_kept: bool) -> anyhow::Result<String>
+/// The report, and the outcomes of the stations at the first four places.
+fn text_of_stations(alloc: Global, world: &World, report: &Report) -> anyhow::Result<String> {
+    let mut answers = debug_text(alloc, report)?;
+    for station in 0..4u32 {
+        add_debug(alloc, &mut answers, world.station(station))?;
+    }
+    Ok(answers)
+}
+
+/// The report of a world of the plan, driven by the moves, and what is told besides.
+fn play(alloc: Global, plan: Plan, moves: &Moves, tells: Tells) -> anyhow::Result<String>
     requires plan { IsPlan plan }
     requires moves { All IsMove moves.now }
     requires few { length moves.now ≤ 100000 }
 {
     let mut world = World::new(alloc, plan)?;
     let report = drive(alloc, &mut world, moves)?;
-    if tells_kept {
-        text_with_kept(alloc, &world, &report)
-    } else {
-        text_of_world(alloc, &world, &report)
+    match tells {
+        Tells::Clients => text_of_world(alloc, &world, &report),
+        Tells::Kept => text_with_kept(alloc, &world, &report),
+        Tells::Stations => text_of_stations(alloc, &world, &report),
     }
 }
 
 /// The report and the outcomes, where the plan and the moves are ones that a world can have.
-fn play_if(alloc: Global, plan: Plan, moves: &Moves, tells_kept: bool) -> anyhow::Result<String> {
-    if moves.len() > 100000 || !are_moves(moves) || !can_log_on(&plan.clients) {
+fn play_if(alloc: Global, plan: Plan, moves: &Moves, tells: Tells) -> anyhow::Result<String> {
+    if moves.len() > 100000 || !are_moves(moves) {
+        return no_case(alloc);
+    }
+    if !can_log_on(&plan.clients) || !can_station(&plan.stations) {
         return no_case(alloc);
     }
     if plan.tables.len() != plan.controllers.len() {
         return no_case(alloc);
     }
-    play(alloc, plan, moves, tells_kept)
+    play(alloc, plan, moves, tells)
 }
 
 /// `world.run WORD ..`: the plan's words and the moves: the report, and the outcomes of the clients at the first four
@@ -247,14 +287,22 @@ fn play_if(alloc: Global, plan: Plan, moves: &Moves, tells_kept: bool) -> anyhow
 fn run(alloc: Global, words: &[&str]) -> anyhow::Result<String> {
     let moves = read_moves(alloc, words)?;
     let plan = read_plan(alloc, words)?;
-    play_if(alloc, plan, &moves, false)
+    play_if(alloc, plan, &moves, Tells::Clients)
 }
 
-/// `world.kept WORD ..`: the same, and the secrets that the members at the first two places keep.
+/// `world.stations WORD ..`: what `world.run` gives, with the outcomes of the stations at the first four places in
+/// place of the clients'.
+fn with_stations(alloc: Global, words: &[&str]) -> anyhow::Result<String> {
+    let moves = read_moves(alloc, words)?;
+    let plan = read_plan(alloc, words)?;
+    play_if(alloc, plan, &moves, Tells::Stations)
+}
+
+/// `world.kept WORD ..`: what `world.run` gives, and the secrets that the members at the first two places keep.
 fn kept(alloc: Global, words: &[&str]) -> anyhow::Result<String> {
     let moves = read_moves(alloc, words)?;
     let plan = read_plan(alloc, words)?;
-    play_if(alloc, plan, &moves, true)
+    play_if(alloc, plan, &moves, Tells::Kept)
 }
 
 /// `world.drill NUMBER COUNT WORD ..`: what `world.run` gives, of so many moves that the number makes.
@@ -263,7 +311,7 @@ fn drill(alloc: Global, words: &[&str]) -> anyhow::Result<String> {
     let count = number(word(words, 2))?;
     let moves = moves_from(alloc, from, count)?;
     let plan = read_plan(alloc, words)?;
-    play_if(alloc, plan, &moves, false)
+    play_if(alloc, plan, &moves, Tells::Clients)
 }
 
 /// `world.moves NUMBER COUNT`: so many moves that the number makes.
@@ -279,6 +327,7 @@ pub(crate) fn answer(alloc: Global, operation: &str, words: &[&str]) -> anyhow::
     match operation {
         "run" => run(alloc, words),
         "kept" => kept(alloc, words),
+        "stations" => with_stations(alloc, words),
         "drill" => drill(alloc, words),
         "moves" => made(alloc, words),
         _ => no_case(alloc),

@@ -1,6 +1,6 @@
 -- A world between two logons, and that a granted one leads from one to another.
 -- Of `logons_come_to_rest`.
-use Rattle.std.proofs.Common.{◌≡◌, ℕ, false, refl, sym, ap, subst, ◌∙◌, List, [], length, Option, None, Some, arith, inl, inr, slice_get}
+use Rattle.std.proofs.Common.{◌≡◌, ℕ, false, refl, sym, ap, subst, ◌∙◌, List, [], Option, None, Some, arith, inl, inr, slice_get}
 use Rattle.std.specs.List.{AllByRecursion}
 use Rattle.std.specs.Prelude.{IsSomeAnd, ◌⊎◌}
 use Rattle.std.proofs.lemmas.Option.{slice_get_within}
@@ -29,6 +29,7 @@ use Rattle.world_moves.specs.declared.plan.Plan.{Plan}
 use Rattle.world_moves.specs.declared.state.State.{State}
 use Rattle.world_moves.specs.Alone.{IsPlainAlone, TrustsNobody}
 use Rattle.world_moves.specs.Choosing.{chosen_place}
+use Rattle.world_moves.specs.Ends.{starters_in}
 use Rattle.world_moves.specs.Forms.{HasForms, IsMemberPlan, IsTable}
 use Rattle.world_moves.specs.Moving.{start}
 use Rattle.world_moves.specs.Plain.{plain_world}
@@ -155,7 +156,7 @@ stands_by plan p (standing.Open o) is is_own stands =
     inr (record { member = o; stands = is; controller = step_so.channel; channel = step_so.keeps; in_step = step_so.in_step })
 
 comes_so : (plan : Plan) (s : State) (rest : AtRest plan s) (client member controller : ℕ) (can : CanCome plan client member controller) (account : Account) (number : ℕ) → IsPlan plan →
-    HasForms plan → InRangeAccount account → chosen_place number (length s.ends.clients) ≡ Some client → HasCome plan s rest client member controller can account number
+    HasForms plan → InRangeAccount account → chosen_place number (starters_in s.ends) ≡ Some client → HasCome plan s rest client member controller can account number
 comes_so plan s rest client member controller can account number is forms account_so chosen =
     let three : AreThree plan client member controller = three_for plan client member controller can in
     let secret : KnowsComputer (coming_from plan s rest client member controller three account account) =
@@ -188,7 +189,7 @@ comes_so plan s rest client member controller can account number is forms accoun
     }
 
 begins_so : (plan : Plan) (s : State) (rest : AtRest plan s) (client member controller : ℕ) (can : CanBeGranted plan client member controller) (number : ℕ) → IsPlan plan → HasForms plan →
-    chosen_place number (length s.ends.clients) ≡ Some client → HasBegun plan s rest client member controller can number
+    chosen_place number (starters_in s.ends) ≡ Some client → HasBegun plan s rest client member controller can number
 begins_so plan s rest client member controller can number is forms chosen =
     let cr : ControllerRests plan s controller can.come.computer.table = rest.controllers controller can.come.computer.table can.come.computer.is_table in
     let later : IsStated (account_in cr.table.accounts can.come.task.user) can.account = stands_stated can.come.computer.table cr.table cr.states can.come.task.user can.account can.found in

@@ -53,6 +53,7 @@ use Rattle.world_moves.specs.declared.links.Route.{Route}
 use Rattle.world_moves.specs.declared.links.Route.TheVariants.{ToMember}
 use Rattle.world_moves.specs.declared.state.State.{State}
 use Rattle.world_moves.specs.Choosing.{chosen_place}
+use Rattle.world_moves.specs.Ends.{starters_in}
 use Rattle.world_moves.specs.Moving.{act, end_of_peer, start}
 use Rattle.world_moves.specs.declared.moves.Move.{Move}
 use Rattle.logon_steps.specs.Answering.{IsInStep, auth_value, moved, pair_of}
@@ -548,7 +549,7 @@ pub record DrawsFew (before after : List (List ℕ)) : Type 0 where
 pub record PhasesGoOn : Type 0 where
   -- a client starts where nothing is open and nothing waits
   pub begins : (p : Arrival) (s : State) (number : ℕ) (before : ClientState) (left : List (List ℕ)) (moment : ℕ) →
-      chosen_place number (length s.ends.clients) ≡ Some p.meeting.at_client → slice_get s.client_plans p.meeting.at_client ≡ Some p.meeting.task →
+      chosen_place number (starters_in s.ends) ≡ Some p.meeting.at_client → slice_get s.client_plans p.meeting.at_client ≡ Some p.meeting.task →
       Shows s (rest_scene (with_its_controller p p.meeting) before p.meeting.links left moment []) → IsUnderWay p (start number s).state
   -- each move leads to a phase, or to the end, where the client is in
   pub goes_on : (p : Arrival) (s : State) (what : Move) → IsKnown p → IsReady p s → IsStepOn what → (at : IsUnderWay p s) → HasUserAt p s at.phase what →

@@ -32,6 +32,7 @@ use Rattle.world_moves.specs.declared.plan.Plan.{Plan}
 use Rattle.world_moves.specs.declared.state.State.{State}
 use Rattle.world_moves.specs.Alone.{IsPlainAlone}
 use Rattle.world_moves.specs.Choosing.{chosen_place}
+use Rattle.world_moves.specs.Ends.{starters_in}
 use Rattle.world_moves.specs.Forms.{HasForms}
 use Rattle.world_moves.specs.Moving.{act, end_of_peer, start}
 use Rattle.world_moves.specs.declared.moves.Move.{Move}
@@ -237,9 +238,9 @@ pub record LogonsComeToRest : Type 0 where
   pub first : (plan : Plan) → IsPlan plan → HasForms plan → IsPlainAlone plan → AtRest plan (first_world plan).state
   -- a client that starts at rest is under way, by an account that is in its ranges, and by the user's where he has one
   pub comes : (plan : Plan) (s : State) (rest : AtRest plan s) (client member controller : ℕ) (can : CanCome plan client member controller) (account : Account) (number : ℕ) → IsPlan plan →
-      HasForms plan → InRangeAccount account → chosen_place number (length s.ends.clients) ≡ Some client → HasCome plan s rest client member controller can account number
+      HasForms plan → InRangeAccount account → chosen_place number (starters_in s.ends) ≡ Some client → HasCome plan s rest client member controller can account number
   pub begins : (plan : Plan) (s : State) (rest : AtRest plan s) (client member controller : ℕ) (can : CanBeGranted plan client member controller) (number : ℕ) → IsPlan plan → HasForms plan →
-      chosen_place number (length s.ends.clients) ≡ Some client → HasBegun plan s rest client member controller can number
+      chosen_place number (starters_in s.ends) ≡ Some client → HasBegun plan s rest client member controller can number
   -- once a logon has ended, granted or not, the world rests, where the others are as they were
   pub ends : (plan : Plan) (s : State) (rest : AtRest plan s) (client member controller : ℕ) (can : CanCome plan client member controller) (account machine : Account) (after : State) →
       OthersStay (three_of client member controller) s after → after.client_plans ≡ s.client_plans →

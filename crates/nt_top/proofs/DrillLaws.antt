@@ -27,6 +27,8 @@ use Rattle.world_moves.specs.declared.moves.Move.{Move}
 use Rattle.world_moves.specs.declared.plan.Plan.{Plan}
 use Rattle.nt_words.proofs.KindLaws.{named}
 use Rattle.nt_top.specs.Drill.{IsProvedDrill, drill_client, drill_clients, drill_plan, drill_table, drill_text, report_text}
+use Rattle.std.proofs.lemmas.List.Elements.{All-nil}
+use Rattle.interactive_station.specs.Plans.{CanStation}
 
 -- ---- the document of the accounts is their table
 
@@ -70,7 +72,7 @@ each_follows (suc (suc zero)) d lt = follows _ _ _ _ _ refl (λ e. refl) refl
 each_follows (suc (suc (suc k))) d lt = absurd (omega (arith, lt))
 
 pub plan_is : IsPlan drill_plan
-plan_is = record { tables = refl; clients = each_follows }
+plan_is = record { tables = refl; clients = each_follows; stations = All-nil CanStation }
 
 -- ---- the moves
 
@@ -114,7 +116,7 @@ pub drill_proved : {V E : Type 0} (number count : ℕ) (moves : List Move) (plan
 drill_proved number count moves plan (Ok lines) made planned schedule proved = record {
   schedule = subst (λ (p : Plan). IsSchedule p (moves_of count number)) planned (subst (IsSchedule plan) made schedule);
   nobody = plain_plan drill_plan refl refl;
-  plain = record { controllers = refl; members = (refl, (refl, tt)) };
+  plain = record { controllers = refl; members = (refl, (refl, tt)); stations = refl };
   proved = subst (λ (p : Plan). Proved p (moves_of count number)) planned (subst (Proved plan) made proved);
 }
 drill_proved number count moves plan (Err why) made planned schedule proved = tt

@@ -17,7 +17,7 @@ use Rattle.world_moves.specs.Alone.{HandsNothingOn}
 use Rattle.domain_world.specs.Headline.{Proved}
 use Rattle.domain_world.specs.World.{report_of_run}
 use Rattle.world_moves.specs.Forms.{IsSchedule}
-use Rattle.world_moves.specs.Plain.{NothingSeals}
+use Rattle.world_moves.specs.Plain.{IsPlainPlan}
 use Rattle.world_moves.specs.declared.counting.Report.{Report}
 use Rattle.world_moves.specs.declared.plan.Plan.{Plan}
 use Rattle.nt_words.specs.Roles.{job_of}
@@ -86,6 +86,7 @@ drill_plan = record {
   controllers = codes "PDC" ∷ [];
   members = drill_members;
   clients = drill_clients;
+  stations = [];
   hands_on = false;
   seals = false;
   now = 125911584000000000;
@@ -108,11 +109,11 @@ unfoldable pub drill_text : (number count : ℕ) → List ℕ
 drill_text number count = report_text (report_of_run drill_plan (moves_of count number))
 
 -- All that is proved of runs holds of the run of `count` moves of the number. The drill's plan and its moves are a
--- schedule, nothing seals, and its controllers hand nothing on.
+-- schedule, nothing seals, no station stands, and its controllers hand nothing on.
 pub record IsProvedDrill (number count : ℕ) : Type 0 where
   pub schedule : IsSchedule drill_plan (moves_of count number)
   pub nobody : HandsNothingOn drill_plan
-  pub plain : NothingSeals drill_plan
+  pub plain : IsPlainPlan drill_plan
   pub proved : Proved drill_plan (moves_of count number)
 
 -- what the command comes to: all of these lines

@@ -9,7 +9,9 @@ ghost use Rattle.nt_top.specs.Drill.{IsProvedDrill, count_line, drill_answer, dr
 use crate::answer::Answer;
 use crate::exit::Exit;
 use account_table::{Table, TableRefused};
-use domain_world::{ClientPlans, MemberPlans, Plan, Report, Tables, drive_from, moves_from};
+use domain_world::{
+    ClientPlans, MemberPlans, Plan, Report, StationPlans, Tables, drive_from, moves_from,
+};
 use logon_client::{AuthKind, ClientPlan};
 use member_server::MemberPlan;
 use secret_change::Secrets;
@@ -105,6 +107,7 @@ fn drill_plan(alloc: Global) -> Result<Plan, NoMemory>
         controllers,
         members: drill_members(alloc)?,
         clients: drill_clients(alloc)?,
+        stations: StationPlans::new(alloc),
         hands_on: false,
         seals: false,
         now: 125911584000000000,

@@ -13,7 +13,7 @@ use Rattle.domain_controller.specs.Trusting.{no_trusting}
 use Rattle.domain_controller.proofs.CountLaws.{counts_by_verdict}
 use Rattle.domain_controller.proofs.TrustAloneLaws.{steps_alone}
 use Rattle.world_moves.specs.declared.links.EndId.{EndId}
-use Rattle.world_moves.specs.declared.links.EndId.TheVariants.{Controller, Member, Client}
+use Rattle.world_moves.specs.declared.links.EndId.TheVariants.{Controller, Member, Client, Station}
 use Rattle.world_moves.specs.declared.moves.Move.{Move}
 use Rattle.world_moves.specs.declared.plan.Plan.{Plan}
 use Rattle.world_moves.specs.declared.state.State.{State}
@@ -21,7 +21,7 @@ use Rattle.world_moves.specs.Acting.{AfterHearing, hear, hear_and_act, heard_by,
 use Rattle.world_moves.specs.Alone.{AsksNobody, HandsNothingOn, HearsAlone, IsPlainAlone, NobodyIsAsked, TrustsNobody, alone_controller_step, alone_end_step, hear_alone}
 use Rattle.world_moves.specs.Ends.{EndStates, EndStep, controller_done, end_change, fresh_controller}
 use Rattle.world_moves.specs.Moving.{act}
-use Rattle.world_moves.specs.Plain.{IsPlain, NothingSeals, hear_plain, plain_controller_step, plain_end_step, plain_world, renewed_plain}
+use Rattle.world_moves.specs.Plain.{IsPlain, IsPlainPlan, hear_plain, plain_controller_step, plain_end_step, plain_world, renewed_plain}
 use Rattle.world_moves.specs.World.{World, first_controllers, first_world, run}
 use Rattle.world_moves.proofs.ChangeLaws.{by_change}
 use Rattle.world_moves.proofs.PlainKindLaws.{plain_by, renew_plain_by}
@@ -52,6 +52,7 @@ step_alone hands_on (Controller at) what now ends chances asks =
     controller_alone (slice_get ends.controllers at) at what now ends chances (asks_none ends.controllers at (slice_get ends.controllers at) refl (asks.each at))
 step_alone hands_on (Member at) what now ends chances asks = refl
 step_alone hands_on (Client at) what now ends chances asks = refl
+step_alone hands_on (Station at) what now ends chances asks = refl
 
 -- where ends hear as ones that can't seal
 pub plainly_alone : (end : EndId) (what : Event) (s : State) → AsksNobody s → hear_plain end what s ≡ hear_alone end what s
@@ -118,7 +119,7 @@ change_asks at secret s asks = by_change (λ (ends : EndStates) (actions : List 
 
 -- ---- through moves, and what is done in them
 
--- a world in which nothing seals, and whose controllers ask nobody
+-- a plain world whose controllers ask nobody
 abbrev pub StandsAlone : State → Type 0
 StandsAlone s = IsPlain s × AsksNobody s
 
@@ -139,6 +140,7 @@ pub moves_alone : HoldsMoving StaysAlone
 moves_alone = record {
   acting = acts_alone;
   begins = λ client plan s stands. stands;
+  starts = λ station plan s stands. (moves_plain.starts station plan s stands.0, stands.1);
   opens = λ route s stands. stands;
   answers = λ link there s is stands. stands;
   forgets = λ end s stands. stands;
@@ -176,8 +178,8 @@ pub plain_plan : (plan : Plan) → plan.seals ≡ false → plan.hands_on ≡ fa
 plain_plan plan unsealed is =
     subst (λ (hands_on : Bool). AllByRecursion (TrustsNobody hands_on) plan.tables) (sym (ap₂ (λ (seals hands_on : Bool). seals || hands_on) unsealed is)) (all_plain plan.tables)
 
--- a plan in which nothing seals, and whose controllers aren't to hand on, asks nobody
-pub alone_if : (plan : Plan) → NothingSeals plan → plan.hands_on ≡ false → IsPlainAlone plan
+-- a plain plan whose controllers aren't to hand on asks nobody
+pub alone_if : (plan : Plan) → IsPlainPlan plan → plan.hands_on ≡ false → IsPlainAlone plan
 alone_if plan plain is = record { plain = plain; alone = plain_plan plan plain.controllers is }
 
 -- the tables of a plan trust nobody, or its controllers aren't to ask
@@ -207,7 +209,7 @@ asked_first hands_on (table ∷ tables) (name ∷ names) none =
           (subst (λ (t : AccountTable). TrustsNobody hands_on t) (sym (fresh_table hands_on table name)) none.0) rest.anew;
     }
 
--- where nothing seals
+-- where the plan is plain
 pub alone_first : (plan : Plan) → IsPlainAlone plan → AsksNobody (plain_world plan).state
 alone_first plan is = asked_first plan.hands_on plan.tables plan.controllers (trusts_nobody plan is)
 

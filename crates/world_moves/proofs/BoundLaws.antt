@@ -1,14 +1,15 @@
 -- A move makes one link at most.
 -- It serves `World::step`.
-use Rattle.std.proofs.Common.{◌≡◌, ℕ, ◌+◌, ◌≤◌, Bool, true, false, List, [], ◌∷◌, length, Option, Some, None, slice_get, refl, ap, ◌∙◌, arith, length-append}
+use Rattle.std.proofs.Common.{◌≡◌, ℕ, ◌+◌, ◌-◌, ◌≤◌, Bool, true, false, List, [], ◌∷◌, length, Option, Some, None, slice_get, refl, ap, ◌∙◌, arith, length-append}
 use Rattle.wire_base.specs.Maps.{lookup, same_number}
 use Rattle.outside.specs.declared.action.Action.{Action}
 use Rattle.outside.specs.declared.event.Event.{Event}
 use Rattle.outside.specs.declared.event.Event.TheVariants as event
+use Rattle.interactive_station.specs.declared.plan.StationPlan.{StationPlan}
 use Rattle.logon_client.specs.declared.plan.ClientPlan.{ClientPlan}
 use Rattle.world_moves.specs.declared.bag.BagUnit.{BagUnit}
 use Rattle.world_moves.specs.declared.links.EndId.{EndId}
-use Rattle.world_moves.specs.declared.links.EndId.TheVariants.{Client, Member}
+use Rattle.world_moves.specs.declared.links.EndId.TheVariants.{Client, Member, Station}
 use Rattle.world_moves.specs.declared.links.OpenLink.{OpenLink}
 use Rattle.world_moves.specs.declared.links.Route.{Route}
 use Rattle.world_moves.specs.declared.links.Route.TheVariants.{Stranger}
@@ -19,9 +20,9 @@ use Rattle.world_moves.specs.declared.state.WaitingDial.{WaitingDial}
 use Rattle.world_moves.specs.Acting.{closed_at, forget, hear_and_act, perform_all, piece_comes, shut_link}
 use Rattle.world_moves.specs.Bag.{first_waiting, pieces_of}
 use Rattle.world_moves.specs.Choosing.{chosen_in, chosen_place}
-use Rattle.world_moves.specs.Ends.{acceptors_in, count_of, end_at}
+use Rattle.world_moves.specs.Ends.{acceptors_in, count_of, end_at, starters_in}
 use Rattle.world_moves.specs.Links.{acceptor_of, handed_links, hearer_of, hearer_on, links_of}
-use Rattle.world_moves.specs.Moving.{act, answer_by, answered_link, begun, change_at, changed, come, come_by, come_on_own, connect_by, connect_first, deliver_by, deliver_on, deliver_unit, end_of_peer, fail_first, hand_on, lose_by, onward_by, open_link, restart_at, restart_by, route_to, settle, shut_at, shut_by, start_at, start_by, stranger_at, stranger_by, with_link, without_first}
+use Rattle.world_moves.specs.Moving.{act, answer_by, answered_link, begun, change_at, changed, come, come_by, come_on_own, connect_by, connect_first, deliver_by, deliver_on, deliver_unit, end_of_peer, fail_first, hand_on, lose_by, onward_by, open_link, restart_at, restart_by, route_to, settle, shut_at, shut_by, start_at, start_by, start_station_by, station_begun, stranger_at, stranger_by, with_link, without_first}
 use Rattle.world_moves.proofs.StateFrameLaws.{HoldsActing, StateFact, actions_so, closed_so, hears_if_so, hears_so, pieces_so}
 
 -- the links are the same
@@ -51,8 +52,13 @@ piece_links back link piece s = hears_if_so SameLinks same_links (hearer_of back
 
 -- ---- moves that make no link
 
+station_by_links : (plan : Option StationPlan) (at : ℕ) (s : State) → (start_station_by plan at s).state.links ≡ s.links
+station_by_links None at s = refl
+station_by_links (Some plan) at s =
+    all_links (Station at) (station_begun at plan (forget (Station at) s)).actions (station_begun at plan (forget (Station at) s)).state
+
 start_by_links : (plan : Option ClientPlan) (at : ℕ) (s : State) → (start_by plan at s).state.links ≡ s.links
-start_by_links None at s = refl
+start_by_links None at s = station_by_links (slice_get s.station_plans (at - length s.client_plans)) (at - length s.client_plans) s
 start_by_links (Some plan) at s = all_links (Client at) (begun at plan (forget (Client at) s)).actions (begun at plan (forget (Client at) s)).state
 
 start_at_links : (at : Option ℕ) (s : State) → (start_at at s).state.links ≡ s.links
@@ -151,7 +157,7 @@ same_count : (s t : State) → t.links ≡ s.links → length t.links ≤ length
 same_count s t is = omega (arith, ap length is)
 
 act_count : (s : State) (what : Move) → length (act s what).state.links ≤ length s.links + 1
-act_count s (move.Start number) = same_count s (act s (move.Start number)).state (start_at_links (chosen_place number (length s.ends.clients)) s)
+act_count s (move.Start number) = same_count s (act s (move.Start number)).state (start_at_links (chosen_place number (starters_in s.ends)) s)
 act_count s (move.Stranger number) = stranger_count (chosen_place number (acceptors_in s.ends)) s
 act_count s move.Connect = connect_count (slice_get s.dials 0) (without_first s)
 act_count s move.FailDial = same_count s (act s move.FailDial).state (fail_links (slice_get s.dials 0) (without_first s))

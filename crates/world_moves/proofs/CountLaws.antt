@@ -1,6 +1,6 @@
 -- What a world counts is what its ends' actions are.
 -- It serves `State::put_answered`, `State::shut_link`, `World::new` and 4 more.
-use Rattle.std.proofs.Common.{◌≡◌, ℕ, ◌+◌, Bool, true, false, cond, List, [], ◌∷◌, ◌++◌, length, Option, Some, None, slice_get, refl, ap, sym, subst, ◌∙◌, arith, if◌then◌else◌}
+use Rattle.std.proofs.Common.{◌≡◌, ℕ, ◌+◌, ◌-◌, Bool, true, false, cond, List, [], ◌∷◌, ◌++◌, length, Option, Some, None, slice_get, refl, ap, sym, subst, ◌∙◌, arith, if◌then◌else◌}
 use Rattle.std.specs.List.{count_by}
 use Rattle.std.proofs.lemmas.List.{append_assoc}
 use Rattle.std.proofs.lemmas.List.Sums.{sum_by-append}
@@ -8,12 +8,13 @@ use Rattle.wire_base.specs.Maps.{lookup, same_number}
 use Rattle.outside.specs.declared.action.Action.{Action}
 use Rattle.outside.specs.declared.event.Event.{Event}
 use Rattle.outside.specs.declared.event.Event.TheVariants as event
+use Rattle.interactive_station.specs.declared.plan.StationPlan.{StationPlan}
 use Rattle.logon_client.specs.declared.plan.ClientPlan.{ClientPlan}
 use Rattle.domain_controller.specs.Laws.{is_passed}
 use Rattle.world_moves.specs.declared.bag.BagUnit.{BagUnit}
 use Rattle.world_moves.specs.declared.counting.Counts.{Counts}
 use Rattle.world_moves.specs.declared.links.EndId.{EndId}
-use Rattle.world_moves.specs.declared.links.EndId.TheVariants.{Client, Controller, Member}
+use Rattle.world_moves.specs.declared.links.EndId.TheVariants.{Client, Member, Station}
 use Rattle.world_moves.specs.declared.links.OpenLink.{OpenLink}
 use Rattle.world_moves.specs.declared.links.Route.{Route}
 use Rattle.world_moves.specs.declared.links.Route.TheVariants.{Stranger}
@@ -26,10 +27,10 @@ use Rattle.world_moves.specs.Acting.{Acted, Given, AfterHearing, close_open, clo
 use Rattle.world_moves.specs.Bag.{first_waiting, pieces_of}
 use Rattle.world_moves.specs.Choosing.{chosen_in, chosen_place}
 use Rattle.world_moves.specs.Counting.{add_counts, clipped, counted_of, counts_of, is_barred, is_counted, is_in, is_out, is_unanswered, judges, no_counts, tells}
-use Rattle.world_moves.specs.Ends.{EndStates, EndStep, acceptors_in, count_of, end_at, end_step}
+use Rattle.world_moves.specs.Ends.{EndStates, EndStep, acceptors_in, count_of, end_at, end_step, starters_in}
 use Rattle.world_moves.specs.Links.{acceptor_of, handed_links, hearer_of, hearer_on, links_of, other_hearer}
-use Rattle.world_moves.specs.Moving.{act, answer_by, answered_link, begun, change_at, changed, come, come_by, come_on_own, connect_by, connect_first, deliver_by, deliver_on, deliver_unit, end_of_peer, fail_first, hand_on, lose_by, onward_by, open_link, restart_at, restart_by, route_to, settle, shut_at, shut_by, start_at, start_by, stranger_at, stranger_by, with_link, without_first}
-use Rattle.world_moves.specs.World.{Passed, World, actions_in, actions_of_run, counted_given, counted_of_run, first_world, happens, report_by, report_of, report_of_run, run, run_of}
+use Rattle.world_moves.specs.Moving.{act, answer_by, answered_link, begun, change_at, changed, come, come_by, come_on_own, connect_by, connect_first, deliver_by, deliver_on, deliver_unit, end_of_peer, fail_first, hand_on, lose_by, onward_by, open_link, restart_at, restart_by, route_to, settle, shut_at, shut_by, start_at, start_by, start_station_by, station_begun, stranger_at, stranger_by, with_link, without_first}
+use Rattle.world_moves.specs.World.{World, counted_given, counted_of_run, first_world, happens, report_by, report_of, report_of_run, run, run_of}
 use Rattle.world_moves.proofs.ChangeLaws.{by_change}
 use Rattle.world_moves.proofs.EndKindLaws.{step_by}
 
@@ -101,23 +102,7 @@ none_if false actions is = refl
 step_counted : (end : EndId) (what : Event) (s : State) → (end_step end what s.moment s.ends s.chances).counted ≡ counted_of end (hear end what s).actions
 step_counted end what s =
     step_by (λ (one : EndId) (step : EndStep). step.counted ≡ counted_of one step.actions) what s.moment s.ends s.chances (λ one. none_if (is_counted one) [] refl) (λ at c is. refl) (λ at m is. refl)
-    (λ at c is. refl) end
-
--- all are, of each end
-each_counted : (end : EndId) → is_counted end ≡ true
-each_counted (Controller at) = refl
-each_counted (Member at) = refl
-each_counted (Client at) = refl
-
-given_all : (given : Given) → counted_given given ≡ actions_in given
-given_all [] = refl
-given_all (one ∷ given) =
-    ap (λ (hit : Bool). (if hit then one.1 ∷ [] else []) ++ counted_given given) (each_counted one.0) ∙ ap (λ rest. one.1 ∷ rest) (given_all given)
-
-run_all : (passed : List Passed) → counted_of_run passed ≡ actions_of_run passed
-run_all [] = refl
-run_all (one ∷ passed) =
-    ap (λ first. first ++ counted_of_run passed) (given_all one.given) ∙ ap (λ rest. actions_in one.given ++ rest) (run_all passed)
+    (λ at c is. refl) (λ at t is. refl) end
 
 -- ---- a part counts what its ends gave
 
@@ -209,8 +194,12 @@ pieces_right back link (piece ∷ pieces) s still =
 
 -- ---- moves
 
+station_by_right : (plan : Option StationPlan) (at : ℕ) (s : State) → Still s.counts → Right s (start_station_by plan at s)
+station_by_right None at s still = unchanged s s refl still
+station_by_right (Some plan) at s still = done_right (Station at) (station_begun at plan (forget (Station at) s)) s refl
+
 start_by_right : (plan : Option ClientPlan) (at : ℕ) (s : State) → Still s.counts → Right s (start_by plan at s)
-start_by_right None at s still = unchanged s s refl still
+start_by_right None at s still = station_by_right (slice_get s.station_plans (at - length s.client_plans)) (at - length s.client_plans) s still
 start_by_right (Some plan) at s still = done_right (Client at) (begun at plan (forget (Client at) s)) s refl
 
 start_right : (at : Option ℕ) (s : State) → Still s.counts → Right s (start_at at s)
@@ -319,7 +308,7 @@ restart_counts None s = refl
 restart_counts (Some number) s = restart_by_counts (end_at number s.ends) s
 
 pub act_right : (s : State) (what : Move) → Still s.counts → Right s (act s what)
-act_right s (move.Start number) still = start_right (chosen_place number (length s.ends.clients)) s still
+act_right s (move.Start number) still = start_right (chosen_place number (starters_in s.ends)) s still
 act_right s (move.Stranger number) still = stranger_right (chosen_place number (acceptors_in s.ends)) s still
 act_right s move.Connect still = from_same s (without_first s) _ refl (connect_right (slice_get s.dials 0) (without_first s) still)
 act_right s move.FailDial still = from_same s (without_first s) _ refl (fail_right (slice_get s.dials 0) (without_first s) still)
@@ -353,9 +342,9 @@ clip_none n = omega arith
 from_none : (actions : List Action) → add_counts no_counts (counts_of actions) ≡ counts_of actions
 from_none actions = same_counts _ _ (clip_none _) (clip_none _) (clip_none _) (clip_none _) (clip_none _)
 
--- the report of a run from a plan is that of the actions that its ends gave
+-- the report of a run from a plan is that of the actions that are counted
 pub counts_are_of_actions : (plan : Plan) (moves : List Move) → report_of (run moves (first_world plan)) ≡ report_of_run plan moves
 counts_are_of_actions plan moves =
     ap (λ c. report_by c (run moves (first_world plan)).moves) (run_counts moves (first_world plan) (still_add no_counts no_counts)
-    ∙ from_none (counted_of_run (run_of moves (first_world plan))) ∙ ap (λ all. counts_of all) (run_all (run_of moves (first_world plan))))
-    ∙ ap (λ n. report_by (counts_of (actions_of_run (run_of moves (first_world plan)))) n) (run_moves moves (first_world plan) ∙ (let e : 0 + length moves ≡ length moves = omega arith in e))
+    ∙ from_none (counted_of_run (run_of moves (first_world plan))))
+    ∙ ap (λ n. report_by (counts_of (counted_of_run (run_of moves (first_world plan)))) n) (run_moves moves (first_world plan) ∙ (let e : 0 + length moves ≡ length moves = omega arith in e))

@@ -15,14 +15,16 @@ use Rattle.account_table.specs.AccountTable.{AccountTable}
 use Rattle.domain_controller.specs.SealStep.{seal_step_of as controller_step_of}
 use Rattle.domain_controller.specs.State.{State as ControllerState}
 use Rattle.domain_controller.specs.Step.{is_stopped as controller_is_stopped}
+use Rattle.interactive_station.specs.State.{StationState}
+use Rattle.interactive_station.specs.Machine.{step_of as station_step_of}
 use Rattle.logon_client.specs.State.{State as ClientState}
 use Rattle.logon_client.specs.Machine.{step_of as client_step_of}
 use Rattle.member_server.specs.State.{State as MemberState}
 use Rattle.member_server.specs.Machine.{is_stopped as member_is_stopped}
 use Rattle.member_server.specs.SealStep.{any_step_of as member_step_of}
-use Rattle.world_moves.specs.Ends.{EndStates, client_done, client_step, controller_done, controller_step, drawn_on, end_done, fresh_controller, member_done, member_step, renew_controller}
+use Rattle.world_moves.specs.Ends.{EndStates, client_done, client_step, controller_done, controller_step, drawn_on, end_done, fresh_controller, member_done, member_step, renew_controller, station_done, station_step}
 use Rattle.world_moves.specs.Running.{CanStep}
-use Rattle.world_moves.specs.declared.links.EndId.TheVariants.{Controller, Member, Client}
+use Rattle.world_moves.specs.declared.links.EndId.TheVariants.{Controller, Member, Client, Station}
 
 same_drawing : (one other : Drawing) → one.seed ≡ other.seed → one.boot ≡ other.boot → one.drawn ≡ other.drawn → one.left ≡ other.left → one ≡ other
 same_drawing one other seed boot drawn left =
@@ -74,6 +76,15 @@ client_took old new at what now ends before after actions there takes =
     ∙ ap (λ step. client_done step at ends before) takes.is
     ∙ ap (λ d. end_done (Client at) (record ends { clients = slice_set ends.clients at new }) d actions) (drawn_is before after takes.drawn takes.draws)
 
+pub station_took : (old new : StationState) (at : ℕ) (what : Event) (now : ℕ) (ends : EndStates) (before after : Drawing) (actions : List Action) →
+    slice_get ends.stations at ≡ Some old → Takes (station_step_of old what now before.left) new before after actions →
+    station_step (slice_get ends.stations at) at what now ends before
+    ≡ end_done (Station at) (record ends { stations = slice_set ends.stations at new }) after actions
+station_took old new at what now ends before after actions there takes =
+    ap (λ c. station_step c at what now ends before) there
+    ∙ ap (λ step. station_done step at ends before) takes.is
+    ∙ ap (λ d. end_done (Station at) (record ends { stations = slice_set ends.stations at new }) d actions) (drawn_is before after takes.drawn takes.draws)
+
 -- what is taken out at a place and put back changed is changed in its place
 pub put_back : {T : Type 0} (items : List T) (at : ℕ) (item : T) → at < length items → insert (remove items at) at item ≡ slice_set items at item
 put_back [] at item lt = absurd (omega arith)
@@ -104,9 +115,9 @@ renews_at hands_on seals all rest after at taken new table name lt read left its
     ∙ ap (λ (s : ControllerState). fresh_controller hands_on seals s.table s.name) same in
     behind ∙ ap (λ (left : List ControllerState). insert left at new) left ∙ put_back all at new lt ∙ ap (λ (s : ControllerState). slice_set all at s) made
 
-pub renewed_run : (hands_on seals gave_up : Bool) (controllers after : List ControllerState) (members : List MemberState) (clients : List ClientState) (at : ℕ) → at < length controllers →
-    Renews hands_on seals controllers at after → CanStep gave_up controllers members clients → CanStep gave_up after members clients
-renewed_run hands_on seals gave_up controllers after members clients at lt renews can = elim (slice_get_cases controllers at).1 [
+pub renewed_run : (hands_on seals gave_up : Bool) (controllers after : List ControllerState) (members : List MemberState) (clients : List ClientState) (stations : List StationState) (at : ℕ) → at < length controllers →
+    Renews hands_on seals controllers at after → CanStep gave_up controllers members clients stations → CanStep gave_up after members clients stations
+renewed_run hands_on seals gave_up controllers after members clients stations at lt renews can = elim (slice_get_cases controllers at).1 [
   | inl found ↦ (let new : ControllerState = fresh_controller hands_on seals found.0.table found.0.name in
       let is : after ≡ slice_set controllers at new = renews found.0 found.2 in
       let size : length after ≡ length controllers = ap length is ∙ length-set controllers at new in
@@ -117,6 +128,7 @@ renewed_run hands_on seals gave_up controllers after members clients at lt renew
               (All-set (λ (c : ControllerState). controller_is_stopped c ≡ false) controllers at new (fresh_runs hands_on seals found.0.table found.0.name) (can.running goes_on).each_controller);
           each_member = (can.running goes_on).each_member;
           each_client = (can.running goes_on).each_client;
+          each_station = (can.running goes_on).each_station;
           few = omega (arith, can.few, size);
         };
       })
@@ -124,14 +136,15 @@ renewed_run hands_on seals gave_up controllers after members clients at lt renew
 ]
 
 -- the controllers are let go
-pub none_run : (gave_up : Bool) (controllers none : List ControllerState) (members : List MemberState) (clients : List ClientState) → none ≡ [] →
-    CanStep gave_up controllers members clients → CanStep gave_up none members clients
-none_run gave_up controllers none members clients is can = record {
+pub none_run : (gave_up : Bool) (controllers none : List ControllerState) (members : List MemberState) (clients : List ClientState) (stations : List StationState) → none ≡ [] →
+    CanStep gave_up controllers members clients stations → CanStep gave_up none members clients stations
+none_run gave_up controllers none members clients stations is can = record {
   few = omega (arith, can.few, ap length is);
   running = λ goes_on. record {
     each_controller = subst AllRun (sym is) (All-nil (λ (c : ControllerState). controller_is_stopped c ≡ false));
     each_member = (can.running goes_on).each_member;
     each_client = (can.running goes_on).each_client;
+    each_station = (can.running goes_on).each_station;
     few = omega (arith, can.few, ap length is);
   };
 }
@@ -144,14 +157,15 @@ renewed_is hands_on seals ends after at lt renews = elim (slice_get_cases ends.c
 ]
 
 -- a member that runs is put in a place
-pub member_put : (gave_up : Bool) (controllers : List ControllerState) (members : List MemberState) (clients : List ClientState) (at : ℕ) (member put : MemberState) → put ≡ member →
-    member_is_stopped member ≡ false → CanStep gave_up controllers members clients → CanStep gave_up controllers (slice_set members at put) clients
-member_put gave_up controllers members clients at member put is runs can = record {
+pub member_put : (gave_up : Bool) (controllers : List ControllerState) (members : List MemberState) (clients : List ClientState) (stations : List StationState) (at : ℕ) (member put : MemberState) → put ≡ member →
+    member_is_stopped member ≡ false → CanStep gave_up controllers members clients stations → CanStep gave_up controllers (slice_set members at put) clients stations
+member_put gave_up controllers members clients stations at member put is runs can = record {
   few = omega (arith, can.few, length-set members at put);
   running = λ goes_on. record {
     each_controller = (can.running goes_on).each_controller;
     each_member = All-set (λ (m : MemberState). member_is_stopped m ≡ false) members at put (ap (λ (m : MemberState). member_is_stopped m) is ∙ runs) (can.running goes_on).each_member;
     each_client = (can.running goes_on).each_client;
+    each_station = (can.running goes_on).each_station;
     few = omega (arith, can.few, length-set members at put);
   };
 }

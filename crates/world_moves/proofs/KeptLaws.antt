@@ -7,7 +7,7 @@ use Rattle.outside.specs.declared.action.Action.TheVariants as action
 use Rattle.secret_change.specs.Secrets.{SecretsState, secrets_of}
 use Rattle.member_server.specs.declared.plan.MemberPlan.{MemberPlan}
 use Rattle.world_moves.specs.declared.links.EndId.{EndId}
-use Rattle.world_moves.specs.declared.links.EndId.TheVariants.{Controller, Member, Client}
+use Rattle.world_moves.specs.declared.links.EndId.TheVariants.{Controller, Member, Client, Station}
 use Rattle.world_moves.specs.Acting.{keep_at, keep_by, plans_after, put_secrets}
 use Rattle.world_moves.specs.MemberPlans.{AreAlikeButSecrets, but_secret}
 
@@ -39,6 +39,7 @@ keep_alike : (end : EndId) (text : List ℕ) (plans : List MemberPlan) → AreAl
 keep_alike (Controller at) text plans = refl
 keep_alike (Member at) text plans = keep_by_alike (secrets_of text) at plans
 keep_alike (Client at) text plans = refl
+keep_alike (Station at) text plans = refl
 
 -- an action leaves the plans alike
 pub plans_alike : (end : EndId) (what : Action) (plans : List MemberPlan) → AreAlikeButSecrets plans (plans_after end what plans)

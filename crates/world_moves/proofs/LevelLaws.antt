@@ -1,6 +1,6 @@
 -- What the ends of a world tell is bounded by its moves.
 -- It serves `World::report`, `World::step`.
-use Rattle.std.proofs.Common.{◌≡◌, ℕ, zero, suc, ◌+◌, ◌*◌, ◌≤◌, Bool, true, false, cond, List, [], ◌∷◌, length, map, drop, Option, Some, None, slice_get, slice_set, refl, sym, ap, subst, ◌∙◌, arith, length-drop}
+use Rattle.std.proofs.Common.{◌≡◌, ℕ, zero, suc, ◌+◌, ◌-◌, ◌*◌, ◌≤◌, Bool, true, false, cond, List, [], ◌∷◌, length, map, drop, Option, Some, None, slice_get, slice_set, refl, sym, ap, subst, ◌∙◌, arith, length-drop}
 use Rattle.std.specs.List.{count_by}
 use Rattle.std.proofs.lemmas.List.{length-take}
 use Rattle.std.proofs.lemmas.List.Elements.{All-head, All-tail}
@@ -18,6 +18,9 @@ use Rattle.account_table.specs.AccountTable.{AccountTable}
 use Rattle.domain_controller.specs.Laws.{is_passed}
 use Rattle.domain_controller.specs.SealStep.{seal_step_of as controller_step_of}
 use Rattle.domain_controller.specs.State.{State as ControllerState}
+use Rattle.interactive_station.specs.Machine.{step_of as station_step_of}
+use Rattle.interactive_station.specs.State.{StationState}
+use Rattle.interactive_station.specs.declared.plan.StationPlan.{StationPlan}
 use Rattle.logon_client.specs.State.{State as ClientState}
 use Rattle.logon_client.specs.Machine.{begin_of, fresh_client, step_of as client_step_of}
 use Rattle.logon_client.specs.declared.plan.ClientPlan.{ClientPlan}
@@ -28,7 +31,7 @@ use Rattle.world_moves.specs.declared.bag.BagUnit.{BagUnit}
 use Rattle.world_moves.specs.declared.counting.Counts.{Counts}
 use Rattle.world_moves.specs.declared.counting.Report.{Report}
 use Rattle.world_moves.specs.declared.links.EndId.{EndId}
-use Rattle.world_moves.specs.declared.links.EndId.TheVariants.{Client, Member}
+use Rattle.world_moves.specs.declared.links.EndId.TheVariants.{Client, Member, Station}
 use Rattle.world_moves.specs.declared.links.OpenLink.{OpenLink}
 use Rattle.world_moves.specs.declared.links.Route.{Route}
 use Rattle.world_moves.specs.declared.links.Route.TheVariants.{Stranger}
@@ -41,11 +44,11 @@ use Rattle.world_moves.specs.Acting.{AfterHearing, close_open, closed_at, done, 
 use Rattle.world_moves.specs.Bag.{AreShortUnits, first_waiting, piece_limit, pieces_in, pieces_of, settle_at, settle_by, settled}
 use Rattle.world_moves.specs.Choosing.{chosen_in, chosen_place}
 use Rattle.world_moves.specs.Counting.{AreCounted, add_counts, clipped, counts_of, is_barred, is_in, is_out, is_unanswered, judges, tells}
-use Rattle.world_moves.specs.Ends.{EndStates, EndStep, acceptors_in, actions_by, client_done, controller_done, count_of, end_at, end_step, fresh_controller, member_done, no_step}
+use Rattle.world_moves.specs.Ends.{EndStates, EndStep, acceptors_in, actions_by, client_done, controller_done, count_of, end_at, end_step, fresh_controller, member_done, no_step, starters_in, station_done}
 use Rattle.world_moves.specs.Links.{acceptor_of, handed_links, hearer_of, hearer_on, links_of, other_hearer}
-use Rattle.world_moves.specs.Moving.{act, answer_by, answered_link, begun, change_at, changed, come_by, come_on_own, connect_by, connect_first, deliver_by, deliver_on, deliver_unit, end_of_peer, fail_first, hand_on, lose_by, onward_by, open_link, renewed, restart_at, restart_by, route_to, settle, shut_at, shut_by, start_at, start_by, stranger_at, stranger_by, with_link, without_first}
+use Rattle.world_moves.specs.Moving.{act, answer_by, answered_link, begun, change_at, changed, come_by, come_on_own, connect_by, connect_first, deliver_by, deliver_on, deliver_unit, end_of_peer, fail_first, hand_on, lose_by, onward_by, open_link, renewed, restart_at, restart_by, route_to, settle, shut_at, shut_by, start_at, start_by, start_station_by, station_begun, stranger_at, stranger_by, with_link, without_first}
 use Rattle.world_moves.specs.Telling.{IsWithin, adds_at, bytes_left, bytes_of, counted_in, level_limit, level_of, opens_at, outcomes_left, outcomes_of, tells_one, told_by}
-use Rattle.world_moves.specs.World.{IsMove, World, actions_of_run, first_controllers, first_world, happens, move_limit, report_of, report_of_run, run, run_of}
+use Rattle.world_moves.specs.World.{IsMove, World, counted_of_run, first_controllers, first_world, happens, move_limit, report_of, report_of_run, run, run_of}
 use Rattle.world_moves.proofs.SealAskingLaws.{member_tells}
 use Rattle.world_moves.proofs.BagLaws.{units_settle}
 use Rattle.world_moves.proofs.ChangeLaws.{by_change, member_begun}
@@ -173,11 +176,17 @@ module _ (what : Event) (now : ℕ) (ends : EndStates) (chances : Drawing) (c : 
   unfolding level_of
   client_level at s is = omega (arith, counted_few c (actions_by (client_step_of s what now chances.left).answer), client_tells s what now chances.left)
 
+  -- what a station tells isn't counted
+  station_level : (at : ℕ) (t : StationState) → slice_get ends.stations at ≡ Some t → Adds ends c what (station_done (station_step_of t what now chances.left) at ends chances)
+  unfolding level_of
+  station_level at t is = omega (arith, counted_few c [])
+
 hear_level : (most : ℕ) (end : EndId) (what : Event) (s : State) → level s + adds_at what ≤ most → level (hear end what s).state ≤ most
 hear_level most end what s few =
     let adds : Adds s.ends s.counts what (end_step end what s.moment s.ends s.chances) =
     step_by (λ (one : EndId) (step : EndStep). Adds s.ends s.counts what step) what s.moment s.ends s.chances (none_level what s.moment s.ends s.chances s.counts)
-    (controller_level what s.moment s.ends s.chances s.counts) (member_level what s.moment s.ends s.chances s.counts) (client_level what s.moment s.ends s.chances s.counts) end in
+    (controller_level what s.moment s.ends s.chances s.counts) (member_level what s.moment s.ends s.chances s.counts) (client_level what s.moment s.ends s.chances s.counts)
+    (station_level what s.moment s.ends s.chances s.counts) end in
     omega (arith, few, adds)
 
 -- ---- actions
@@ -263,16 +272,23 @@ settled_short number bag short = settled_by (slice_get bag number) number bag re
 -- ---- moves
 
 module _ (most : ℕ) where
+  station_by_level : (plan : Option StationPlan) (station : ℕ) (s : State) → level s ≤ most → level (start_station_by plan station s).state ≤ most
+  unfolding level_of
+  station_by_level None station s few = few
+  station_by_level (Some plan) station s few =
+      done_level most (Station station) (station_begun station plan (forget (Station station) s)) (omega (arith, few, counted_few s.counts []))
+
   start_by_level : (plan : Option ClientPlan) (client : ℕ) (s : State) → level s ≤ most → level (start_by plan client s).state ≤ most
   unfolding level_of
-  start_by_level None client s few = few
+  start_by_level None client s few =
+      station_by_level (slice_get s.station_plans (client - length s.client_plans)) (client - length s.client_plans) s few
   start_by_level (Some plan) client s few =
       done_level most (Client client) (begun client plan (forget (Client client) s))
       (omega (arith, few, counted_few s.counts (begin_of (fresh_client plan)).actions))
 
-  start_level : (client : Option ℕ) (s : State) → level s ≤ most → level (start_at client s).state ≤ most
+  start_level : (at : Option ℕ) (s : State) → level s ≤ most → level (start_at at s).state ≤ most
   start_level None s few = few
-  start_level (Some client) s few = start_by_level (slice_get s.client_plans client) client s few
+  start_level (Some at) s few = start_by_level (slice_get s.client_plans at) at s few
 
   open_level : (route : Route) (s : State) → level s + 16 ≤ most → level (open_link route s).state ≤ most
   open_level route s few = hears_level most (acceptor_of route) (event.Opened (length s.links)) (with_link route s) few
@@ -323,7 +339,7 @@ module _ (most : ℕ) where
   renewed_level end s few =
       renew_by (λ (one : EndId) (ends : EndStates). level_of s.counts ends ≤ most) s (λ one. few)
       (λ at c is. omega (arith, few, bytes_anew s.ends.controllers at (fresh_controller s.hands_on s.seals c.table c.name) (fresh_bytes s.hands_on s.seals c.table c.name)))
-      (λ at plan is. omega (arith, few, outcomes_anew s.ends.members at (sealing_member plan) refl)) (λ at plan is. few) end
+      (λ at plan is. omega (arith, few, outcomes_anew s.ends.members at (sealing_member plan) refl)) (λ at plan is. few) (λ at plan is. few) end
 
   changed_level : (at : ℕ) (secret : List ℕ) (s : State) → level s ≤ most → level (changed at secret s).state ≤ most
   unfolding level_of
@@ -375,7 +391,7 @@ module _ (most : ℕ) where
   hand_level (Some link) back bytes s short few = piece_level most back link bytes s (omega (arith, few, short))
 
   act_level : (what : Move) (s : State) → IsMove what → AreShortUnits s.bag → level s + level_limit ≤ most → level (act s what).state ≤ most
-  act_level (move.Start number) s is short few = start_level (chosen_place number (length s.ends.clients)) s (omega (arith, few))
+  act_level (move.Start number) s is short few = start_level (chosen_place number (starters_in s.ends)) s (omega (arith, few))
   act_level (move.Stranger number) s is short few = stranger_level (chosen_place number (acceptors_in s.ends)) s (omega (arith, few))
   act_level move.Connect s is short few = connect_level (slice_get s.dials 0) (without_first s) (omega (arith, few))
   act_level move.FailDial s is short few = fail_level (slice_get s.dials 0) (without_first s) (omega (arith, few))
@@ -421,9 +437,9 @@ run_goes_on (what ∷ moves) w = run_goes_on moves (happens w what)
 unclipped : (count all moves : ℕ) → count ≡ clipped all → 16 * count ≤ level_limit * moves → moves ≤ move_limit → count ≡ all
 unclipped count all moves is within few = omega (arith, is, within, few)
 
--- the report of a run counts all actions that its ends gave
+-- the report of a run counts all of its actions that are counted
 pub counts_fit : (plan : Plan) (moves : List Move) (w : World) (report : Report) → (w.stopped ≡ false → IsWithin w.state w.moves) → w.moves ≤ move_limit → report ≡ report_of w →
-    w ≡ run moves (first_world plan) → AreCounted report (actions_of_run (run_of moves (first_world plan))) (length moves)
+    w ≡ run moves (first_world plan) → AreCounted report (counted_of_run (run_of moves (first_world plan))) (length moves)
 unfolding IsWithin level_of
 counts_fit plan moves w report kept few is made =
     let runs : w.stopped ≡ false = ap (λ (x : World). x.stopped) made ∙ run_goes_on moves (first_world plan) in

@@ -24,5 +24,6 @@ pub mod RunLaws
 pub mod RunningLaws
 pub mod SealAskingLaws
 pub mod SealTellingLaws
+pub mod StartLaws
 pub mod StateFrameLaws
 pub mod TellingLaws

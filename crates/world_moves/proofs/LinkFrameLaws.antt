@@ -88,6 +88,7 @@ pub move_stays : (Fits : LinkFact) → StaysAlways Fits → (what : Move) (s : S
 move_stays Fits stays = move_so (Holds Fits) (record {
   acting = acting Fits stays.steps;
   begins = λ client plan s holds. holds;
+  starts = λ station plan s holds. holds;
   opens = λ route s holds. stays.opens route s.links s.open_links s.bag holds;
   answers = λ link there s is holds. stays.answers link there s.links s.open_links s.bag is holds;
   forgets = λ end s holds. stays.forgets end s.links s.open_links s.bag holds;

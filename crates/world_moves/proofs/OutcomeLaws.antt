@@ -1,13 +1,16 @@
--- What stays of the clients' outcomes in a move, and where it isn't made.
+-- What stays of the clients' and the stations' outcomes in a move, and where it isn't made.
 -- It serves `Ends::step_client`, `Ends::give_up`, `World::step` and the parts of a move.
 use Rattle.std.proofs.Common.{◌≡◌, ℕ, zero, suc, ◌<◌, ◌≤◌, ◌+◌, ◌⊎◌, inl, inr, Bool, true, false, List, [], ◌∷◌, length, Option, Some, None, IsSome, map, slice_get, slice_set, refl, ap, sym, subst, ◌∙◌, arith, rules}
 use Rattle.std.proofs.lemmas.Option.{slice_get_past}
 use Rattle.std.proofs.lemmas.List.{length-set}
+use Rattle.interactive_station.specs.State.{StationState}
+use Rattle.interactive_station.specs.declared.outcome.StationOutcome.{StationOutcome}
 use Rattle.logon_client.specs.State.{State as ClientState}
 use Rattle.logon_client.specs.Machine.{has_outcome}
 use Rattle.logon_client.specs.declared.outcome.ClientOutcome.{ClientOutcome}
-use Rattle.world_moves.specs.Outcomes.{OutcomesFall, OutcomesStay, has_its_outcome, is_told, kept_if, outcome_at}
-use Rattle.world_moves.specs.World.{outcome_by}
+use Rattle.world_moves.specs.declared.state.State.{State}
+use Rattle.world_moves.specs.Outcomes.{HasNoOtherOutcomes, OutcomesFall, OutcomesStay, has_its_outcome, is_told, kept_if, outcome_at}
+use Rattle.world_moves.specs.World.{World, outcome_by, station_outcome_by}
 
 -- ---- in a move
 
@@ -131,3 +134,15 @@ fall_all n had old new all falls = record {
         ∙ sym (ap (λ client. kept_if (is_told (slice_get had at)) (outcome_by client)) (slice_get_past old at (omega (arith, all, past))) ∙ none_kept (is_told (slice_get had at)))
   ];
 }
+
+-- ---- stations
+
+-- stations that are let go have no outcome
+pub none_other : (old new : World) → new.state.ends.stations ≡ [] → HasNoOtherOutcomes old new
+none_other old new none station outcome is =
+    absurd (let never : None ≡ Some outcome = sym (ap (λ (stations : List StationState). station_outcome_by (slice_get stations station)) none) ∙ is in cc)
+
+-- the stations' outcomes of the same world are the same
+pub same_other : (old new : World) → new.state ≡ old.state → HasNoOtherOutcomes old new
+same_other old new same station outcome is =
+    sym (ap (λ (s : State). station_outcome_by (slice_get s.ends.stations station)) same) ∙ is

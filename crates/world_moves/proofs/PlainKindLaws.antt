@@ -1,4 +1,4 @@
--- What a step of an end comes to, and making one anew, where nothing seals: by the kind of the end. It serves
+-- What a step of an end comes to, and making one anew, in a plain world: by the kind of the end. It serves
 -- `who_asks_nobody_hears_alone` and the laws of all runs.
 use Rattle.std.proofs.Common.{◌≡◌, ℕ, false, List, Option, Some, None, slice_get, slice_set, refl}
 use Rattle.outside.specs.Drawing.{Drawing}
@@ -12,7 +12,7 @@ use Rattle.member_server.specs.State.{State as MemberState}
 use Rattle.member_server.specs.Machine.{fresh_member, step_of as member_step_of}
 use Rattle.member_server.specs.declared.plan.MemberPlan.{MemberPlan}
 use Rattle.world_moves.specs.declared.links.EndId.{EndId}
-use Rattle.world_moves.specs.declared.links.EndId.TheVariants.{Controller, Member, Client}
+use Rattle.world_moves.specs.declared.links.EndId.TheVariants.{Controller, Member, Client, Station}
 use Rattle.world_moves.specs.declared.state.State.{State}
 use Rattle.world_moves.specs.Ends.{EndStates, EndStep, client_done, client_step, controller_done, fresh_controller, member_done, no_step, renew_client, renew_controller, with_client, with_member}
 use Rattle.world_moves.specs.Plain.{plain_controller_step, plain_end_step, plain_member_step, renew_plain, renew_plain_member}
@@ -39,6 +39,7 @@ module _ (P : EndId → EndStep → Type 0) (what : Event) (now : ℕ) (ends : E
   plain_by (Controller at) = controller_by (slice_get ends.controllers at) at refl
   plain_by (Member at) = member_by (slice_get ends.members at) at refl
   plain_by (Client at) = client_by (slice_get ends.clients at) at refl
+  plain_by (Station at) = none (Station at)
 
 -- ---- seen from the ends of one kind: the other ends leave them as they are
 
@@ -78,3 +79,4 @@ module _ (P : EndId → EndStates → Type 0) (s : State) (none : (end : EndId) 
   renew_plain_by (Controller at) = controller_anew (slice_get s.ends.controllers at) at refl
   renew_plain_by (Member at) = member_anew (slice_get s.member_plans at) at refl
   renew_plain_by (Client at) = client_anew (slice_get s.client_plans at) at refl
+  renew_plain_by (Station at) = none (Station at)

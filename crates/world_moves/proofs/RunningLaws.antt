@@ -5,6 +5,9 @@ use Rattle.std.proofs.lemmas.List.Elements.{All-nil, All-cons, All-map}
 use Rattle.account_table.specs.AccountTable.{AccountTable}
 use Rattle.domain_controller.specs.State.{State as ControllerState}
 use Rattle.domain_controller.specs.Step.{is_stopped as controller_is_stopped}
+use Rattle.interactive_station.specs.Machine.{fresh_station}
+use Rattle.interactive_station.specs.State.{StationState}
+use Rattle.interactive_station.specs.declared.plan.StationPlan.{StationPlan}
 use Rattle.logon_client.specs.State.{State as ClientState}
 use Rattle.logon_client.specs.Machine.{fresh_client}
 use Rattle.logon_client.specs.declared.plan.ClientPlan.{ClientPlan}
@@ -32,8 +35,16 @@ members_run plans = All-map (λ (m : MemberState). member_is_stopped m ≡ false
 clients_run : (plans : List ClientPlan) → All (λ (c : ClientState). IsSome c.running) (map fresh_client plans)
 clients_run plans = All-map (λ (c : ClientState). IsSome c.running) fresh_client plans (λ k d lt. search rules)
 
-pub fresh_running : (hands_on seals : Bool) (tables : List AccountTable) (names : List (List ℕ)) (members : List MemberPlan) (clients : List ClientPlan) →
-    length (first_controllers hands_on seals tables names) + length (map sealing_member members) + length (map fresh_client clients) < 2 ^ 64 →
-    AreRunning (first_controllers hands_on seals tables names) (map sealing_member members) (map fresh_client clients)
-fresh_running hands_on seals tables names members clients few =
-    record { each_controller = controllers_run hands_on seals tables names; each_member = members_run members; each_client = clients_run clients; few = few }
+stations_run : (plans : List StationPlan) → All (λ (t : StationState). IsSome t.running) (map fresh_station plans)
+stations_run plans = All-map (λ (t : StationState). IsSome t.running) fresh_station plans (λ k d lt. search rules)
+
+pub fresh_running : (hands_on seals : Bool) (tables : List AccountTable) (names : List (List ℕ)) (members : List MemberPlan) (clients : List ClientPlan) (stations : List StationPlan) →
+    length (first_controllers hands_on seals tables names) + length (map sealing_member members) + length (map fresh_client clients) + length (map fresh_station stations) < 2 ^ 64 →
+    AreRunning (first_controllers hands_on seals tables names) (map sealing_member members) (map fresh_client clients) (map fresh_station stations)
+fresh_running hands_on seals tables names members clients stations few = record {
+  each_controller = controllers_run hands_on seals tables names;
+  each_member = members_run members;
+  each_client = clients_run clients;
+  each_station = stations_run stations;
+  few = few;
+}

@@ -1,14 +1,15 @@
 -- What holds between the state before a move and the one after it: whatever holds through each single change. It serves
 -- the laws of states alone, as those of links and the bag, of how many ends there are, and of the moment.
-use Rattle.std.proofs.Common.{◌≡◌, ℕ, Bool, true, false, List, [], ◌∷◌, length, Option, Some, None, slice_get, refl}
+use Rattle.std.proofs.Common.{◌≡◌, ◌-◌, ℕ, Bool, true, false, List, [], ◌∷◌, length, Option, Some, None, slice_get, refl}
 use Rattle.wire_base.specs.Maps.{lookup, same_number}
 use Rattle.outside.specs.declared.action.Action.{Action}
 use Rattle.outside.specs.declared.event.Event.{Event}
 use Rattle.outside.specs.declared.event.Event.TheVariants as event
+use Rattle.interactive_station.specs.declared.plan.StationPlan.{StationPlan}
 use Rattle.logon_client.specs.declared.plan.ClientPlan.{ClientPlan}
 use Rattle.world_moves.specs.declared.bag.BagUnit.{BagUnit}
 use Rattle.world_moves.specs.declared.links.EndId.{EndId}
-use Rattle.world_moves.specs.declared.links.EndId.TheVariants.{Client, Member}
+use Rattle.world_moves.specs.declared.links.EndId.TheVariants.{Client, Member, Station}
 use Rattle.world_moves.specs.declared.links.OpenLink.{OpenLink}
 use Rattle.world_moves.specs.declared.links.Route.{Route}
 use Rattle.world_moves.specs.declared.links.Route.TheVariants.{Stranger}
@@ -19,9 +20,9 @@ use Rattle.world_moves.specs.declared.state.WaitingDial.{WaitingDial}
 use Rattle.world_moves.specs.Acting.{AfterHearing, close_open, closed_at, forget, hear, hear_and_act, hear_and_act_if, link_closed, perform, perform_all, perform_all_quietly, perform_by, perform_quietly, piece_comes, pieces_come, shut_link}
 use Rattle.world_moves.specs.Bag.{first_waiting, pieces_of}
 use Rattle.world_moves.specs.Choosing.{chosen_in, chosen_place}
-use Rattle.world_moves.specs.Ends.{acceptors_in, count_of, end_at}
+use Rattle.world_moves.specs.Ends.{acceptors_in, count_of, end_at, starters_in}
 use Rattle.world_moves.specs.Links.{acceptor_of, handed_links, hearer_of, hearer_on, links_of, other_hearer}
-use Rattle.world_moves.specs.Moving.{act, answer_by, answered_link, begun, come_by, come_on_own, connect_by, connect_first, deliver_by, deliver_on, deliver_unit, end_of_peer, fail_first, hand_on, lose_by, onward_by, open_link, renewed, restart_at, restart_by, route_to, settle, shut_at, shut_by, start_at, start_by, stranger_at, stranger_by, tick, with_link, without_first, change_at, changed}
+use Rattle.world_moves.specs.Moving.{act, answer_by, answered_link, begun, come_by, come_on_own, connect_by, connect_first, deliver_by, deliver_on, deliver_unit, end_of_peer, fail_first, hand_on, lose_by, onward_by, open_link, renewed, restart_at, restart_by, route_to, settle, shut_at, shut_by, start_at, start_by, start_station_by, station_begun, stranger_at, stranger_by, tick, with_link, without_first, change_at, changed}
 
 -- ---- what is to hold
 
@@ -38,10 +39,11 @@ pub record HoldsActing (Rel : StateFact) : Type 0 where
   pub acts : (end : EndId) (what : Action) (s : State) → Rel s (perform_quietly end what s)
   pub shuts : (link : ℕ) (s : State) → Rel s (shut_link link s)
 
--- A relation of states holds on where a client begins, and where one thing changes beside that.
+-- A relation of states holds on where a client or a station begins, and where one thing changes beside that.
 pub record HoldsMoving (Rel : StateFact) : Type 0 where
   pub acting : HoldsActing Rel
   pub begins : (client : ℕ) (plan : ClientPlan) (s : State) → Rel s (begun client plan s).state
+  pub starts : (station : ℕ) (plan : StationPlan) (s : State) → Rel s (station_begun station plan s).state
   pub opens : (route : Route) (s : State) → Rel s (with_link route s)
   pub answers : (link : ℕ) (there : OpenLink) (s : State) → lookup same_number link s.open_links ≡ Some there → Rel s (answered_link link there s)
   pub forgets : (end : EndId) (s : State) → Rel s (forget end s)
@@ -145,8 +147,17 @@ module _ (Rel : StateFact) (holds : HoldsMoving Rel) where
 
   -- ---- links
 
+  station_by_so : (plan : Option StationPlan) (station : ℕ) (s : State) → Rel s (start_station_by plan station s).state
+  station_by_so None station s = holds.acting.none s
+  station_by_so (Some plan) station s =
+      let gone : State = forget (Station station) s in
+      let heard : AfterHearing = station_begun station plan gone in
+      holds.acting.both s gone (perform_all (Station station) heard.actions heard.state).state (holds.forgets (Station station) s)
+      (holds.acting.both gone heard.state (perform_all (Station station) heard.actions heard.state).state (holds.starts station plan gone)
+      (actions_so Rel holds.acting (Station station) heard.actions heard.state))
+
   start_by_so : (plan : Option ClientPlan) (client : ℕ) (s : State) → Rel s (start_by plan client s).state
-  start_by_so None client s = holds.acting.none s
+  start_by_so None client s = station_by_so (slice_get s.station_plans (client - length s.client_plans)) (client - length s.client_plans) s
   start_by_so (Some plan) client s =
       let gone : State = forget (Client client) s in
       let heard : AfterHearing = begun client plan gone in
@@ -154,9 +165,9 @@ module _ (Rel : StateFact) (holds : HoldsMoving Rel) where
       (holds.acting.both gone heard.state (perform_all (Client client) heard.actions heard.state).state (holds.begins client plan gone)
       (actions_so Rel holds.acting (Client client) heard.actions heard.state))
 
-  start_so : (client : Option ℕ) (s : State) → Rel s (start_at client s).state
+  start_so : (at : Option ℕ) (s : State) → Rel s (start_at at s).state
   start_so None s = holds.acting.none s
-  start_so (Some client) s = start_by_so (slice_get s.client_plans client) client s
+  start_so (Some at) s = start_by_so (slice_get s.client_plans at) at s
 
   open_so : (route : Route) (s : State) → Rel s (open_link route s).state
   open_so route s =
@@ -229,7 +240,7 @@ module _ (Rel : StateFact) (holds : HoldsMoving Rel) where
   -- ---- a move
 
   pub move_so : (what : Move) (s : State) → Rel s (act s what).state
-  move_so (move.Start number) s = start_so (chosen_place number (length s.ends.clients)) s
+  move_so (move.Start number) s = start_so (chosen_place number (starters_in s.ends)) s
   move_so (move.Stranger number) s = stranger_so (chosen_place number (acceptors_in s.ends)) s
   move_so move.Connect s = dials_so s (act s move.Connect).state (connect_so (slice_get s.dials 0) (without_first s))
   move_so move.FailDial s = dials_so s (act s move.FailDial).state (fail_so (slice_get s.dials 0) (without_first s))

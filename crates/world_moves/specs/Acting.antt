@@ -9,7 +9,7 @@ use Rattle.secret_change.specs.Secrets.{SecretsState, secrets_of}
 use Rattle.member_server.specs.declared.plan.MemberPlan.{MemberPlan}
 use Rattle.world_moves.specs.declared.bag.BagUnit.{BagUnit}
 use Rattle.world_moves.specs.declared.links.EndId.{EndId}
-use Rattle.world_moves.specs.declared.links.EndId.TheVariants.{Controller, Member, Client}
+use Rattle.world_moves.specs.declared.links.EndId.TheVariants.{Controller, Member, Client, Station}
 use Rattle.world_moves.specs.declared.links.OpenLink.{OpenLink}
 use Rattle.world_moves.specs.declared.links.Route.{Route}
 use Rattle.world_moves.specs.declared.state.State.{State}
@@ -93,6 +93,7 @@ abbrev pub keep_at : EndId → List ℕ → List MemberPlan → List MemberPlan
 keep_at (Controller at) text plans = plans
 keep_at (Member at) text plans = keep_by (secrets_of text) at plans
 keep_at (Client at) text plans = plans
+keep_at (Station at) text plans = plans
 
 -- the plans of members after an action
 abbrev pub plans_after : EndId → Action → List MemberPlan → List MemberPlan

@@ -10,7 +10,7 @@ use Rattle.domain_controller.specs.Laws.{is_passed}
 use Rattle.world_moves.specs.declared.counting.Counts.{Counts}
 use Rattle.world_moves.specs.declared.counting.Report.{Report}
 use Rattle.world_moves.specs.declared.links.EndId.{EndId}
-use Rattle.world_moves.specs.declared.links.EndId.TheVariants.{Controller, Member, Client}
+use Rattle.world_moves.specs.declared.links.EndId.TheVariants.{Controller, Member, Client, Station}
 
 -- ---- what is counted
 
@@ -42,11 +42,13 @@ judges test _ = false
 
 -- ---- whose actions are counted
 
--- What comes of a logon is told by a member, and what is judged by a controller; a client tells neither.
+-- What comes of a logon is told by a member, and what is judged by a controller; a client tells neither. A station
+-- tells what comes of its user's logon, which isn't counted: what is counted are logons at members.
 abbrev pub is_counted : EndId → Bool
 is_counted (Controller at) = true
 is_counted (Member at) = true
 is_counted (Client at) = true
+is_counted (Station at) = false
 
 -- the actions of an end that are counted
 abbrev pub counted_of : EndId → List Action → List Action

@@ -1,5 +1,5 @@
 -- The ends of a world, and one step of one of them (this project's own choice). Ends are numbered from 0: controllers,
--- then members, then clients.
+-- then members, then clients, then stations.
 use Rattle.std.specs.Prelude.{ℕ, ◌≡◌, ◌+◌, ◌-◌, ◌++◌, nat_lt, Bool, true, false, List, [], length, Option, Some, None, Result, Ok, Err, slice_get, slice_set, if◌then◌else◌}
 use Rattle.outside.specs.Drawing.{Drawing}
 use Rattle.outside.specs.Machine.{Stepped}
@@ -11,6 +11,9 @@ use Rattle.domain_controller.specs.SealStep.{first_seal_state, seal_step_of as c
 use Rattle.domain_controller.specs.State.{State as ControllerState}
 use Rattle.domain_controller.specs.Step.{first_state}
 use Rattle.domain_controller.specs.TrustStep.{first_trust_state}
+use Rattle.interactive_station.specs.State.{StationState}
+use Rattle.interactive_station.specs.Machine.{fresh_station, step_of as station_step_of}
+use Rattle.interactive_station.specs.declared.plan.StationPlan.{StationPlan}
 use Rattle.logon_client.specs.State.{State as ClientState}
 use Rattle.logon_client.specs.Machine.{fresh_client, step_of as client_step_of}
 use Rattle.logon_client.specs.declared.plan.ClientPlan.{ClientPlan}
@@ -20,33 +23,39 @@ use Rattle.member_server.specs.SealStep.{any_step_of as member_step_of, sealing_
 use Rattle.member_server.specs.declared.change.ChangeRefused.{ChangeRefused}
 use Rattle.member_server.specs.declared.plan.MemberPlan.{MemberPlan}
 use Rattle.world_moves.specs.declared.links.EndId.{EndId}
-use Rattle.world_moves.specs.declared.links.EndId.TheVariants.{Controller, Member, Client}
+use Rattle.world_moves.specs.declared.links.EndId.TheVariants.{Controller, Member, Client, Station}
 use Rattle.world_moves.specs.Counting.{counted_of}
 
 pub record EndStates : Type 0 where
   pub controllers : List ControllerState
   pub members : List MemberState
   pub clients : List ClientState
+  pub stations : List StationState
 
 -- ---- numbers of ends
 
-abbrev pub end_in : ℕ → ℕ → ℕ → ℕ → Option EndId
-end_in number controllers members clients =
+abbrev pub end_in : (number controllers members clients stations : ℕ) → Option EndId
+end_in number controllers members clients stations =
     if nat_lt number controllers then Some (Controller number)
     else if nat_lt number (controllers + members) then Some (Member (number - controllers))
     else if nat_lt number (controllers + members + clients) then Some (Client (number - (controllers + members)))
+    else if nat_lt number (controllers + members + clients + stations) then Some (Station (number - (controllers + members + clients)))
     else None
 
 -- the end of that number
 abbrev pub end_at : ℕ → EndStates → Option EndId
-end_at number ends = end_in number (length ends.controllers) (length ends.members) (length ends.clients)
+end_at number ends =
+    end_in number (length ends.controllers) (length ends.members) (length ends.clients) (length ends.stations)
 
--- how many ends take links, and how many ends there are
+-- how many ends take links, how many can be started, and how many ends there are
 abbrev pub acceptors_in : EndStates → ℕ
 acceptors_in ends = length ends.controllers + length ends.members
 
+abbrev pub starters_in : EndStates → ℕ
+starters_in ends = length ends.clients + length ends.stations
+
 abbrev pub count_of : EndStates → ℕ
-count_of ends = length ends.controllers + length ends.members + length ends.clients
+count_of ends = length ends.controllers + length ends.members + length ends.clients + length ends.stations
 
 -- ---- one step
 
@@ -89,6 +98,11 @@ client_done step at ends chances =
     end_done (Client at) (record ends { clients = slice_set ends.clients at step.state })
     (drawn_on chances step.drawn step.left) (actions_by step.answer)
 
+abbrev pub station_done : Stepped StationState → ℕ → EndStates → Drawing → EndStep
+station_done step at ends chances =
+    end_done (Station at) (record ends { stations = slice_set ends.stations at step.state })
+    (drawn_on chances step.drawn step.left) (actions_by step.answer)
+
 abbrev pub controller_step : Option ControllerState → ℕ → Event → ℕ → EndStates → Drawing → EndStep
 controller_step None at what now ends chances = no_step ends chances
 controller_step (Some controller) at what now ends chances =
@@ -104,12 +118,18 @@ client_step None at what now ends chances = no_step ends chances
 client_step (Some client) at what now ends chances =
     client_done (client_step_of client what now chances.left) at ends chances
 
+abbrev pub station_step : Option StationState → ℕ → Event → ℕ → EndStates → Drawing → EndStep
+station_step None at what now ends chances = no_step ends chances
+station_step (Some station) at what now ends chances =
+    station_done (station_step_of station what now chances.left) at ends chances
+
 -- the step of an end for an event at a moment
 abbrev pub end_step : EndId → Event → ℕ → EndStates → Drawing → EndStep
 end_step (Controller at) what now ends chances =
     controller_step (slice_get ends.controllers at) at what now ends chances
 end_step (Member at) what now ends chances = member_step (slice_get ends.members at) at what now ends chances
 end_step (Client at) what now ends chances = client_step (slice_get ends.clients at) at what now ends chances
+end_step (Station at) what now ends chances = station_step (slice_get ends.stations at) at what now ends chances
 
 -- ---- ends that are made anew
 
@@ -126,7 +146,7 @@ renew_controller hands_on seals None at ends = ends
 renew_controller hands_on seals (Some c) at ends =
     record ends { controllers = slice_set ends.controllers at (fresh_controller hands_on seals c.table c.name) }
 
--- members and clients are made from their plans; a member's channel seals where its plan says so
+-- members, clients and stations are made from their plans; a member's channel seals where its plan says so
 abbrev pub with_member : ℕ → MemberState → EndStates → EndStates
 with_member at member ends = record ends { members = slice_set ends.members at member }
 
@@ -140,6 +160,13 @@ with_client at client ends = record ends { clients = slice_set ends.clients at c
 abbrev pub renew_client : Option ClientPlan → ℕ → EndStates → EndStates
 renew_client None at ends = ends
 renew_client (Some plan) at ends = with_client at (fresh_client plan) ends
+
+abbrev pub with_station : ℕ → StationState → EndStates → EndStates
+with_station at station ends = record ends { stations = slice_set ends.stations at station }
+
+abbrev pub renew_station : Option StationPlan → ℕ → EndStates → EndStates
+renew_station None at ends = ends
+renew_station (Some plan) at ends = with_station at (fresh_station plan) ends
 
 -- ---- a member begins to change its secret
 

@@ -7,6 +7,7 @@ use Rattle.account_table.specs.AccountTable.{AccountTable}
 use Rattle.account_table.specs.declared.account.Account.{Account}
 use Rattle.account_table.specs.declared.account.Trust.{Trust}
 use Rattle.account_table.specs.TableForms as forms
+use Rattle.interactive_station.specs.declared.plan.StationPlan.{StationPlan}
 use Rattle.logon_client.specs.declared.plan.ClientPlan.{ClientPlan}
 use Rattle.member_server.specs.declared.plan.MemberPlan.{MemberPlan}
 use Rattle.member_server.specs.Secrets.{next_of, tried_of}
@@ -60,11 +61,21 @@ pub record IsClientPlan (plan : ClientPlan) : Type 0 where
   pub workstation : AreUnits plan.workstation
   pub hash : IsBlock 16 plan.hash
 
+-- so are those of stations; how many, `CanStation` says
+pub record IsStationPlan (plan : StationPlan) : Type 0 where
+  pub controller : All IsByte plan.controller
+  pub computer : IsName plan.computer
+  pub secret : IsBlock 16 plan.secret
+  pub domain : AreUnits plan.domain
+  pub user : AreUnits plan.user
+  pub hash : IsBlock 16 plan.hash
+
 pub record HasForms (plan : Plan) : Type 0 where
   pub tables : All IsTable plan.tables
   pub controllers : All IsName plan.controllers
   pub members : All IsMemberPlan plan.members
   pub clients : All IsClientPlan plan.clients
+  pub stations : All IsStationPlan plan.stations
   pub now : plan.now < 2 ^ 64
   pub seed : IsBlock 32 plan.seed
 

@@ -1,12 +1,12 @@
 -- The links of a world (this project's own choice). They are numbered from 0, in the order in which they were made.
 use Rattle.std.specs.Prelude.{ℕ, ◌==◌, ◌&&◌, ◌||◌, Bool, true, false, not, List, [], ◌∷◌, Option, Some, None}
 use Rattle.world_moves.specs.declared.links.EndId.{EndId}
-use Rattle.world_moves.specs.declared.links.EndId.TheVariants.{Controller, Member, Client}
+use Rattle.world_moves.specs.declared.links.EndId.TheVariants.{Controller, Member, Client, Station}
 use Rattle.world_moves.specs.declared.links.LinkKind.{LinkKind}
 use Rattle.world_moves.specs.declared.links.LinkKind.TheVariants as kind
 use Rattle.world_moves.specs.declared.links.OpenLink.{OpenLink}
 use Rattle.world_moves.specs.declared.links.Route.{Route}
-use Rattle.world_moves.specs.declared.links.Route.TheVariants.{ToMember, ToController, Between, Stranger}
+use Rattle.world_moves.specs.declared.links.Route.TheVariants.{ToMember, ToController, Between, FromStation, Stranger}
 use Rattle.world_moves.specs.Choosing.{places}
 
 -- ---- ends and kinds
@@ -15,12 +15,14 @@ abbrev pub same_end : EndId → EndId → Bool
 same_end (Controller one) (Controller other) = one == other
 same_end (Member one) (Member other) = one == other
 same_end (Client one) (Client other) = one == other
+same_end (Station one) (Station other) = one == other
 same_end _ _ = false
 
 abbrev pub same_kind : LinkKind → LinkKind → Bool
 same_kind kind.ToMember kind.ToMember = true
 same_kind kind.ToController kind.ToController = true
 same_kind kind.Between kind.Between = true
+same_kind kind.FromStation kind.FromStation = true
 same_kind kind.Stranger kind.Stranger = true
 same_kind _ _ = false
 
@@ -41,6 +43,7 @@ abbrev pub kind_of : Route → LinkKind
 kind_of (ToMember client member) = kind.ToMember
 kind_of (ToController member controller) = kind.ToController
 kind_of (Between from to) = kind.Between
+kind_of (FromStation station controller) = kind.FromStation
 kind_of (Stranger to) = kind.Stranger
 
 -- the end that dialled it; none of this world where it is a stranger's
@@ -48,6 +51,7 @@ abbrev pub dialler_of : Route → Option EndId
 dialler_of (ToMember client member) = Some (Client client)
 dialler_of (ToController member controller) = Some (Member member)
 dialler_of (Between from to) = Some (Controller from)
+dialler_of (FromStation station controller) = Some (Station station)
 dialler_of (Stranger to) = None
 
 -- the end that accepted it
@@ -55,6 +59,7 @@ abbrev pub acceptor_of : Route → EndId
 acceptor_of (ToMember client member) = Member member
 acceptor_of (ToController member controller) = Controller controller
 acceptor_of (Between from to) = Controller to
+acceptor_of (FromStation station controller) = Controller controller
 acceptor_of (Stranger to) = to
 
 abbrev pub is_end : Option EndId → EndId → Bool

@@ -1,15 +1,17 @@
 -- The moves of a world (this project's own choice).
-use Rattle.std.specs.Prelude.{ℕ, ◌+◌, ◌==◌, ◌^◌, min, nat_le, Bool, true, false, List, [], ◌∷◌, ◌++◌, drop, length, Option, Some, None, slice_get, if◌then◌else◌}
+use Rattle.std.specs.Prelude.{ℕ, ◌+◌, ◌-◌, ◌==◌, ◌^◌, min, nat_le, Bool, true, false, List, [], ◌∷◌, ◌++◌, drop, length, Option, Some, None, slice_get, if◌then◌else◌}
 use Rattle.wire_base.specs.Maps.{lookup, put, same_number}
 use Rattle.outside.specs.declared.event.Event.TheVariants as event
+use Rattle.interactive_station.specs.Machine.{begin_of as station_begin_of, fresh_station}
+use Rattle.interactive_station.specs.declared.plan.StationPlan.{StationPlan}
 use Rattle.logon_client.specs.Machine.{begin_of, fresh_client}
 use Rattle.logon_client.specs.declared.plan.ClientPlan.{ClientPlan}
 use Rattle.world_moves.specs.declared.bag.BagUnit.{BagUnit}
 use Rattle.world_moves.specs.declared.links.EndId.{EndId}
-use Rattle.world_moves.specs.declared.links.EndId.TheVariants.{Controller, Member, Client}
+use Rattle.world_moves.specs.declared.links.EndId.TheVariants.{Controller, Member, Client, Station}
 use Rattle.world_moves.specs.declared.links.OpenLink.{OpenLink}
 use Rattle.world_moves.specs.declared.links.Route.{Route}
-use Rattle.world_moves.specs.declared.links.Route.TheVariants.{ToMember, ToController, Between, Stranger}
+use Rattle.world_moves.specs.declared.links.Route.TheVariants.{ToMember, ToController, Between, FromStation, Stranger}
 use Rattle.world_moves.specs.declared.moves.Move.{Move}
 use Rattle.world_moves.specs.declared.moves.Move.TheVariants as move
 use Rattle.world_moves.specs.declared.state.State.{State}
@@ -18,10 +20,28 @@ use Rattle.world_moves.specs.Acting.{Acted, AfterHearing, closed_at, done, forge
 use Rattle.world_moves.specs.Bag.{first_waiting, pieces_of, settle_at}
 use Rattle.world_moves.specs.Choosing.{chosen_in, chosen_place}
 use Rattle.world_moves.specs.Counting.{add_counts, counted_of, counts_of}
-use Rattle.world_moves.specs.Ends.{EndChange, EndStates, acceptors_in, count_of, end_at, end_change, renew_client, renew_controller, renew_member, with_client}
+use Rattle.world_moves.specs.Ends.{EndChange, EndStates, acceptors_in, count_of, end_at, end_change, renew_client, renew_controller, renew_member, renew_station, starters_in, with_client, with_station}
 use Rattle.world_moves.specs.Links.{accepted, acceptor_of, answered, handed_links, hearer_on, links_of}
 
--- ---- a client starts: it is made anew from its plan, and begins
+-- ---- a station starts: it is made anew from its plan, and begins
+
+abbrev pub station_begun : ℕ → StationPlan → State → AfterHearing
+station_begun at plan s = record {
+  state = record s {
+    ends = with_station at (station_begin_of (fresh_station plan)).state s.ends;
+    counts = add_counts s.counts (counts_of (counted_of (Station at) (station_begin_of (fresh_station plan)).actions));
+  };
+  actions = (station_begin_of (fresh_station plan)).actions;
+}
+
+abbrev pub start_station_by : Option StationPlan → ℕ → State → Acted
+start_station_by None at s = nothing_done s
+start_station_by (Some plan) at s = done (Station at) (station_begun at plan (forget (Station at) s))
+
+abbrev pub start_station : ℕ → State → Acted
+start_station at s = start_station_by (slice_get s.station_plans at) at s
+
+-- ---- so does a client; a number past the clients is that of a station, counted behind them
 
 abbrev pub begun : ℕ → ClientPlan → State → AfterHearing
 begun at plan s = record {
@@ -33,7 +53,7 @@ begun at plan s = record {
 }
 
 abbrev pub start_by : Option ClientPlan → ℕ → State → Acted
-start_by None at s = nothing_done s
+start_by None at s = start_station (at - length s.client_plans) s
 start_by (Some plan) at s = done (Client at) (begun at plan (forget (Client at) s))
 
 abbrev pub start_at : Option ℕ → State → Acted
@@ -41,7 +61,7 @@ start_at None s = nothing_done s
 start_at (Some at) s = start_by (slice_get s.client_plans at) at s
 
 abbrev pub start : ℕ → State → Acted
-start number s = start_at (chosen_place number (length s.ends.clients)) s
+start number s = start_at (chosen_place number (starters_in s.ends)) s
 
 -- ---- a link opens: the end that accepts it hears of it
 
@@ -79,11 +99,13 @@ abbrev pub between_if : (is_itself : Bool) → (from to : ℕ) → Option Route
 between_if true from to = None
 between_if false from to = Some (Between from to)
 
--- a client dials members, a member controllers, and a controller other controllers; no other dial is connected
+-- a client dials members, a member and a station controllers, and a controller other controllers; no other dial is
+-- connected
 abbrev pub route_to : EndId → Option EndId → Option Route
 route_to (Client client) (Some (Member member)) = Some (ToMember client member)
 route_to (Member member) (Some (Controller controller)) = Some (ToController member controller)
 route_to (Controller from) (Some (Controller to)) = between_if (from == to) from to
+route_to (Station station) (Some (Controller controller)) = Some (FromStation station controller)
 route_to _ _ = None
 
 -- the link is open at the side of the end that dialled too
@@ -199,6 +221,7 @@ abbrev pub renew : EndId → State → EndStates
 renew (Controller at) s = renew_controller s.hands_on s.seals (slice_get s.ends.controllers at) at s.ends
 renew (Member at) s = renew_member (slice_get s.member_plans at) at s.ends
 renew (Client at) s = renew_client (slice_get s.client_plans at) at s.ends
+renew (Station at) s = renew_station (slice_get s.station_plans at) at s.ends
 
 abbrev pub renewed : EndId → State → State
 renewed end s = record s { ends = renew end s }

@@ -1,14 +1,21 @@
--- What stays of the clients' outcomes where a move isn't made (this project's own choice).
+-- What stays of the clients' and the stations' outcomes where a move isn't made (this project's own choice).
 use Rattle.std.specs.Prelude.{ℕ, ◌≡◌, Bool, true, false, List, Option, Some, None, slice_get}
+use Rattle.interactive_station.specs.declared.outcome.StationOutcome.{StationOutcome}
 use Rattle.logon_client.specs.State.{State as ClientState}
 use Rattle.logon_client.specs.Machine.{has_outcome}
 use Rattle.logon_client.specs.declared.outcome.ClientOutcome.{ClientOutcome}
 use Rattle.world_moves.specs.declared.state.State.{State}
-use Rattle.world_moves.specs.World.{World, outcome_by, outcome_of}
+use Rattle.world_moves.specs.World.{World, outcome_by, outcome_of, station_outcome_of}
 
 -- each client's outcome is as it was
 abbrev pub HasOutcomesOf : World → World → Type 0
 HasOutcomesOf old new = (client : ℕ) → outcome_of new client ≡ outcome_of old client
+
+-- each station's outcome is as it was, or lost
+abbrev pub HasNoOtherOutcomes : World → World → Type 0
+HasNoOtherOutcomes old new =
+    (station : ℕ) (outcome : StationOutcome) → station_outcome_of new station ≡ Some outcome →
+    station_outcome_of old station ≡ Some outcome
 
 -- ---- within a move
 

@@ -1,5 +1,5 @@
--- A world in which nothing seals (this project's own choice): its controllers can't, and no member's plan asks for it.
--- Each end takes the steps of one that can't seal.
+-- A plain world (this project's own choice): nothing seals in it, since its controllers can't and no member's plan asks
+-- for it, and no station stands in it. Each controller and member takes the steps of one that can't seal.
 use Rattle.std.specs.Prelude.{ℕ, ◌≡◌, Bool, false, List, [], map, Option, Some, None, slice_get, slice_set}
 use Rattle.std.specs.List.{AllByRecursion}
 use Rattle.outside.specs.Counter.{counter_at}
@@ -7,13 +7,16 @@ use Rattle.outside.specs.Drawing.{Drawing}
 use Rattle.outside.specs.declared.event.Event.{Event}
 use Rattle.domain_controller.specs.State.{State as ControllerState}
 use Rattle.domain_controller.specs.TrustStep.{trust_step_of}
+use Rattle.interactive_station.specs.Machine.{fresh_station}
+use Rattle.interactive_station.specs.State.{StationState}
+use Rattle.interactive_station.specs.declared.plan.StationPlan.{StationPlan}
 use Rattle.logon_client.specs.Machine.{fresh_client}
 use Rattle.member_server.specs.Machine.{fresh_member, step_of as plain_member_step_of}
 use Rattle.member_server.specs.SealStep.{SealsNothing}
 use Rattle.member_server.specs.State.{State as MemberState}
 use Rattle.member_server.specs.declared.plan.MemberPlan.{MemberPlan}
 use Rattle.world_moves.specs.declared.links.EndId.{EndId}
-use Rattle.world_moves.specs.declared.links.EndId.TheVariants.{Controller, Member, Client}
+use Rattle.world_moves.specs.declared.links.EndId.TheVariants.{Controller, Member, Client, Station}
 use Rattle.world_moves.specs.declared.moves.Move.{Move}
 use Rattle.world_moves.specs.declared.plan.Plan.{Plan}
 use Rattle.world_moves.specs.declared.state.State.{State}
@@ -28,10 +31,11 @@ use Rattle.world_moves.specs.World.{World, first_controllers, first_world}
 abbrev pub IsUnsealed : MemberPlan → Type 0
 IsUnsealed plan = plan.sealed ≡ false
 
--- a plan whose controllers can't seal, and none of whose members' channels does
-pub record NothingSeals (plan : Plan) : Type 0 where
+-- a plan whose controllers can't seal, none of whose members' channels does, and in which no station stands
+pub record IsPlainPlan (plan : Plan) : Type 0 where
   pub controllers : plan.seals ≡ false
   pub members : AllByRecursion IsUnsealed plan.members
+  pub stations : plan.stations ≡ []
 
 -- ---- a step, and what an end hears
 
@@ -45,12 +49,13 @@ plain_member_step None at what now ends chances = no_step ends chances
 plain_member_step (Some member) at what now ends chances =
     member_done (plain_member_step_of member what now chances.left) at ends chances
 
--- the step of an end, where each steps as one that can't seal
+-- the step of an end, where each steps as one that can't seal, and no station stands
 abbrev pub plain_end_step : EndId → Event → ℕ → EndStates → Drawing → EndStep
 plain_end_step (Controller at) what now ends chances =
     plain_controller_step (slice_get ends.controllers at) at what now ends chances
 plain_end_step (Member at) what now ends chances = plain_member_step (slice_get ends.members at) at what now ends chances
 plain_end_step (Client at) what now ends chances = client_step (slice_get ends.clients at) at what now ends chances
+plain_end_step (Station at) what now ends chances = no_step ends chances
 
 abbrev pub hear_plain : EndId → Event → State → AfterHearing
 hear_plain end what s = heard_by (plain_end_step end what s.moment s.ends s.chances) s
@@ -65,6 +70,7 @@ abbrev pub renew_plain : EndId → State → EndStates
 renew_plain (Controller at) s = renew_controller s.hands_on false (slice_get s.ends.controllers at) at s.ends
 renew_plain (Member at) s = renew_plain_member (slice_get s.member_plans at) at s.ends
 renew_plain (Client at) s = renew_client (slice_get s.client_plans at) at s.ends
+renew_plain (Station at) s = s.ends
 
 abbrev pub renewed_plain : EndId → State → State
 renewed_plain end s = record s { ends = renew_plain end s }
@@ -74,6 +80,7 @@ plain_ends plan = record {
   controllers = first_controllers plan.hands_on false plan.tables plan.controllers;
   members = map fresh_member plan.members;
   clients = map fresh_client plan.clients;
+  stations = map fresh_station plan.stations;
 }
 
 abbrev pub plain_world : Plan → World
@@ -82,6 +89,7 @@ plain_world plan = record {
     ends = plain_ends plan;
     member_plans = plan.members;
     client_plans = plan.clients;
+    station_plans = plan.stations;
     hands_on = plan.hands_on;
     seals = false;
     links = [];
@@ -102,21 +110,24 @@ plain_world plan = record {
 abbrev pub CantSeal : ControllerState → Type 0
 CantSeal controller = controller.trusting.sealing ≡ None
 
--- no end seals, and none will that is made anew
-pub record NoneSeals (seals : Bool) (controllers : List ControllerState) (members : List MemberState) (plans : List MemberPlan) : Type 0 where
+-- no end seals, and none will that is made anew; and no station stands, and none will
+pub record StandsPlain (seals : Bool) (controllers : List ControllerState) (members : List MemberState) (plans : List MemberPlan)
+    (stations : List StationState) (tasks : List StationPlan) : Type 0 where
   pub none : seals ≡ false
   pub each_controller : (at : ℕ) (c : ControllerState) → slice_get controllers at ≡ Some c → CantSeal c
   pub each_member : (at : ℕ) (m : MemberState) → slice_get members at ≡ Some m → SealsNothing m
   pub each_plan : (at : ℕ) (plan : MemberPlan) → slice_get plans at ≡ Some plan → IsUnsealed plan
+  pub no_station : stations ≡ []
+  pub no_task : tasks ≡ []
 
 abbrev pub IsPlain : State → Type 0
-IsPlain s = NoneSeals s.seals s.ends.controllers s.ends.members s.member_plans
+IsPlain s = StandsPlain s.seals s.ends.controllers s.ends.members s.member_plans s.ends.stations s.station_plans
 
--- In the first world of a plan in which nothing seals no end seals, each move leaves it so, and an end hears and is
--- made anew as one that can't seal.
+-- A world of a plain plan is plain at first, each move leaves it so, and an end hears and is made anew as one that
+-- can't seal, and a station not at all.
 pub record HearsPlainly : Type 0 where
-  pub world : (plan : Plan) → NothingSeals plan → first_world plan ≡ plain_world plan
-  pub first : (plan : Plan) → NothingSeals plan → IsPlain (first_world plan).state
+  pub world : (plan : Plan) → IsPlainPlan plan → first_world plan ≡ plain_world plan
+  pub first : (plan : Plan) → IsPlainPlan plan → IsPlain (first_world plan).state
   pub stays : (s : State) (what : Move) → IsPlain s → IsPlain (act s what).state
   pub hears : (end : EndId) (what : Event) (s : State) → IsPlain s → hear end what s ≡ hear_plain end what s
   pub renews : (end : EndId) (s : State) → IsPlain s → renew end s ≡ renew_plain end s

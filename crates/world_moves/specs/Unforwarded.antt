@@ -9,7 +9,7 @@ use Rattle.world_moves.specs.declared.plan.Plan.{Plan}
 use Rattle.world_moves.specs.declared.state.State.{State}
 use Rattle.world_moves.specs.Alone.{HandsNothingOn}
 use Rattle.world_moves.specs.Ends.{EndStates}
-use Rattle.world_moves.specs.Plain.{NothingSeals}
+use Rattle.world_moves.specs.Plain.{IsPlainPlan}
 use Rattle.world_moves.specs.World.{World, actions_of_run, first_world, run, run_of}
 
 -- In the run of these moves from the plan no controller tells of a call for a trusted domain: none tells that a logon
@@ -42,8 +42,8 @@ erased s = record s { ends = erased_ends s.ends; hands_on = false }
 abbrev pub erased_world : World → World
 erased_world w = record w { state = erased w.state }
 
--- The run of a plan in which nothing seals and no call comes for a trusted domain is that of the plan whose controllers
--- ask nobody, but for what controllers keep of those that could be asked.
+-- The run of a plain plan in which no call comes for a trusted domain is that of the plan whose controllers ask nobody,
+-- but for what controllers keep of those that could be asked.
 abbrev pub RunsAlone : Type 0
-RunsAlone = (plan : Plan) (moves : List Move) → NothingSeals plan → IsUnforwarded plan moves →
+RunsAlone = (plan : Plan) (moves : List Move) → IsPlainPlan plan → IsUnforwarded plan moves →
     run moves (first_world (alone_plan plan)) ≡ erased_world (run moves (first_world plan))

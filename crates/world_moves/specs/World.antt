@@ -5,6 +5,10 @@ use Rattle.outside.specs.Counter.{counter_at}
 use Rattle.outside.specs.declared.action.Action.{Action}
 use Rattle.account_table.specs.AccountTable.{AccountTable}
 use Rattle.domain_controller.specs.State.{State as ControllerState}
+use Rattle.interactive_station.specs.Machine.{fresh_station}
+use Rattle.interactive_station.specs.Plans.{CanStation}
+use Rattle.interactive_station.specs.State.{StationState}
+use Rattle.interactive_station.specs.declared.outcome.StationOutcome.{StationOutcome}
 use Rattle.logon_client.specs.State.{State as ClientState}
 use Rattle.logon_client.specs.Machine.{fresh_client}
 use Rattle.logon_client.specs.Plans.{CanLogOn}
@@ -33,10 +37,16 @@ pub record World : Type 0 where
   -- whether a move wasn't made
   pub stopped : Bool
 
--- a plan that a world can be made from: each controller has a table, and each client can follow its plan
+-- a plan that a world can be made from: each controller has a table, and each client and each station can follow its
+-- plan
 pub record IsPlan (plan : Plan) : Type 0 where
   pub tables : length plan.tables ≡ length plan.controllers
   pub clients : All CanLogOn plan.clients
+  pub stations : All CanStation plan.stations
+
+-- how many ends of a plan can be started: its clients and its stations
+abbrev pub starters_of : Plan → ℕ
+starters_of plan = length plan.clients + length plan.stations
 
 -- a move that a world can make: at most 65,536 bytes are handed in
 abbrev pub IsMove : Move → Type 0
@@ -60,6 +70,7 @@ first_ends plan = record {
   controllers = first_controllers plan.hands_on plan.seals plan.tables plan.controllers;
   members = map sealing_member plan.members;
   clients = map fresh_client plan.clients;
+  stations = map fresh_station plan.stations;
 }
 
 abbrev pub first_world : Plan → World
@@ -68,6 +79,7 @@ first_world plan = record {
     ends = first_ends plan;
     member_plans = plan.members;
     client_plans = plan.clients;
+    station_plans = plan.stations;
     hands_on = plan.hands_on;
     seals = plan.seals;
     links = [];
@@ -141,9 +153,9 @@ report_by counts moves = record {
 abbrev pub report_of : World → Report
 report_of w = report_by w.state.counts w.moves
 
--- the counts of the actions of a run from a plan
+-- the counts of the actions that are counted of a run from a plan
 abbrev pub report_of_run : Plan → List Move → Report
-report_of_run plan moves = report_by (counts_of (actions_of_run (run_of moves (first_world plan)))) (length moves)
+report_of_run plan moves = report_by (counts_of (counted_of_run (run_of moves (first_world plan)))) (length moves)
 
 -- ---- secrets
 
@@ -163,3 +175,10 @@ outcome_by (Some client) = client.outcome
 
 abbrev pub outcome_of : World → ℕ → Option ClientOutcome
 outcome_of w client = outcome_by (slice_get w.state.ends.clients client)
+
+abbrev pub station_outcome_by : Option StationState → Option StationOutcome
+station_outcome_by None = None
+station_outcome_by (Some station) = station.outcome
+
+abbrev pub station_outcome_of : World → ℕ → Option StationOutcome
+station_outcome_of w station = station_outcome_by (slice_get w.state.ends.stations station)

@@ -362,7 +362,7 @@ fn keep_at(plans: MemberPlans, end: EndId, text: &[u8]) -> MemberPlans
             Ok(secrets) => put_secrets(plans, at, secrets),
             Err(_) => plans,
         },
-        EndId::Controller(_) | EndId::Client(_) => plans,
+        EndId::Controller(_) | EndId::Client(_) | EndId::Station(_) => plans,
     }
 }
 

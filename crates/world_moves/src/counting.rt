@@ -67,12 +67,14 @@ impl Counts {
     }
 }
 
-/// Whether what the end gives is counted: a member tells what comes of logons, and a controller what it judges.
+/// Whether what the end gives is counted: a member tells what comes of logons, and a controller what it judges. What a
+/// station tells isn't.
 fn is_counted(end: EndId) -> bool
     ensures { result ≡ is_counted end }
 {
     match end {
         EndId::Controller(_) | EndId::Member(_) | EndId::Client(_) => true,
+        EndId::Station(_) => false,
     }
 }
 

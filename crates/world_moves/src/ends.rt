@@ -5,7 +5,7 @@ ghost use Rattle.domain_controller.specs.State.{State as ControllerState};
 ghost use Rattle.member_server.specs.Machine.{is_stopped as member_is_stopped};
 ghost use Rattle.end_links.specs.Bounds.{AreShortSends};
 ghost use Rattle.world_moves.specs.Bounds.{draws_at};
-ghost use Rattle.world_moves.specs.Ends.{HasChanged, end_at, acceptors_in, count_of, end_change, end_done, end_step, controller_step, member_step, client_step, fresh_controller, renew_controller, with_member, with_client};
+ghost use Rattle.world_moves.specs.Ends.{HasChanged, end_at, acceptors_in, count_of, starters_in, end_change, end_done, end_step, controller_step, member_step, client_step, station_step, fresh_controller, renew_controller, with_member, with_client, with_station};
 ghost use Rattle.world_moves.specs.Outcomes.{OutcomesFall, OutcomesStay, has_its_outcome, is_told};
 ghost use Rattle.world_moves.specs.Running.{AreRunning};
 
@@ -13,6 +13,7 @@ use crate::links::EndId;
 use crate::maker::Maker;
 use account_table::Table;
 use domain_controller::Controller;
+use interactive_station::Station;
 use logon_client::{AuthKind, Client, ClientPlan};
 use member_server::{ChangeRefused, Member};
 use outside::{Actions, Event, StepRefused};
@@ -22,12 +23,13 @@ use std::marker::Model;
 use std::mem;
 use wire_base::{Blob, Name, NoMemory, Units};
 
-/// The controllers, members and clients of a world, seen as the lists of their states.
+/// The controllers, members, clients and stations of a world, seen as the lists of their states.
 #[derive(Drop)]
 pub struct Ends {
     controllers: Vec<Controller>,
     members: Vec<Member>,
     clients: Vec<Client>,
+    stations: Vec<Station>,
     // whether one of them gave a step up
     gave_up: bool,
 }
@@ -42,9 +44,11 @@ impl Model for Ends {
       controllers = e.controllers.items;
       members = e.members.items;
       clients = e.clients.items;
+      stations = e.stations.items;
     } };
 
-    ghost invariant = { λ e. CanStep e.gave_up e.controllers.items e.members.items e.clients.items };
+    ghost invariant = { λ e. CanStep e.gave_up e.controllers.items e.members.items e.clients.items
+        e.stations.items };
 }
 
 impl Ends {
@@ -53,18 +57,21 @@ impl Ends {
         controllers: Vec<Controller>,
         members: Vec<Member>,
         clients: Vec<Client>,
+        stations: Vec<Station>,
     ) -> Ends
-        requires { AreRunning controllers.items members.items clients.items }
+        requires { AreRunning controllers.items members.items clients.items stations.items }
         ensures { result ≡ record {
           controllers = controllers.items;
           members = members.items;
           clients = clients.items;
+          stations = stations.items;
         } }
     {
         Ends {
             controllers,
             members,
             clients,
+            stations,
             gave_up: false,
         }
     }
@@ -80,7 +87,14 @@ impl Ends {
     pub(crate) fn count(&self) -> usize
         ensures { result ≡ count_of self.now }
     {
-        self.controllers.len() + self.members.len() + self.clients.len()
+        self.controllers.len() + self.members.len() + self.clients.len() + self.stations.len()
+    }
+
+    /// How many clients and stations there are.
+    pub(crate) fn starters(&self) -> usize
+        ensures { result ≡ starters_in self.now }
+    {
+        self.clients.len() + self.stations.len()
     }
 
     /// How many members there are.
@@ -90,18 +104,18 @@ impl Ends {
         self.members.len()
     }
 
-    /// How many clients there are.
-    pub(crate) fn client_count(&self) -> usize
-        ensures { result ≡ length self.now.clients }
-    {
-        self.clients.len()
-    }
-
     /// The client of that number.
     pub(crate) fn client(&self, at: usize) -> Option<&Client>
         ensures { option_copied result ≡ slice_get self.now.clients at }
     {
         self.clients.get(at)
+    }
+
+    /// The station of that number.
+    pub(crate) fn station(&self, at: usize) -> Option<&Station>
+        ensures { option_copied result ≡ slice_get self.now.stations at }
+    {
+        self.stations.get(at)
     }
 
     /// The end of that number.
@@ -110,12 +124,15 @@ impl Ends {
     {
         let controllers = self.controllers.len();
         let acceptors = controllers + self.members.len();
+        let others = acceptors + self.clients.len();
         if number < controllers {
             Some(EndId::Controller(number))
         } else if number < acceptors {
             Some(EndId::Member(number - controllers))
-        } else if number < acceptors + self.clients.len() {
+        } else if number < others {
             Some(EndId::Client(number - acceptors))
+        } else if number < others + self.stations.len() {
+            Some(EndId::Station(number - others))
         } else {
             None
         }
@@ -147,6 +164,7 @@ impl Ends {
             EndId::Controller(at) => self.step_controller(alloc, at, event, now, chances),
             EndId::Member(at) => self.step_member(alloc, at, event, now, chances),
             EndId::Client(at) => self.step_client(alloc, at, event, now, chances),
+            EndId::Station(at) => self.step_station(alloc, at, event, now, chances),
         }
     }
 
@@ -160,7 +178,8 @@ impl Ends {
         now: u64,
         chances: &mut Maker,
     ) -> Result<Actions, StepRefused>
-        requires { AreRunning self.old.controllers self.old.members self.old.clients }
+        requires { AreRunning self.old.controllers self.old.members self.old.clients
+            self.old.stations }
         ensures answer { IfOk result (λ actions.
             controller_step (slice_get self.old.controllers at) at event.now now self.old
             chances.old ≡ end_done (EndId.Controller at) self.new chances.new actions) }
@@ -192,7 +211,8 @@ impl Ends {
         now: u64,
         chances: &mut Maker,
     ) -> Result<Actions, StepRefused>
-        requires { AreRunning self.old.controllers self.old.members self.old.clients }
+        requires { AreRunning self.old.controllers self.old.members self.old.clients
+            self.old.stations }
         ensures answer { IfOk result (λ actions.
             member_step (slice_get self.old.members at) at event.now now self.old
             chances.old ≡ end_done (EndId.Member at) self.new chances.new actions) }
@@ -253,7 +273,8 @@ impl Ends {
         now: u64,
         chances: &mut Maker,
     ) -> Result<Actions, StepRefused>
-        requires { AreRunning self.old.controllers self.old.members self.old.clients }
+        requires { AreRunning self.old.controllers self.old.members self.old.clients
+            self.old.stations }
         ensures answer { IfOk result (λ actions.
             client_step (slice_get self.old.clients at) at event.now now self.old
             chances.old ≡ end_done (EndId.Client at) self.new chances.new actions) }
@@ -267,6 +288,39 @@ impl Ends {
             return Ok(Actions::new(alloc));
         }
         match self.clients[at].step(alloc, event, now, chances) {
+            Ok(actions) => Ok(actions),
+            Err(why) => {
+                self.gave_up = true;
+                Err(why)
+            }
+        }
+    }
+
+    /// The step of a station.
+    #[tactic(auto, using(crate::proofs::EndLaws::station_took, crate::proofs::EndLaws::spent_all, crate::proofs::OutcomeLaws::stays_same))]
+    fn step_station(
+        &mut self,
+        alloc: Global,
+        at: usize,
+        event: &Event,
+        now: u64,
+        chances: &mut Maker,
+    ) -> Result<Actions, StepRefused>
+        requires { AreRunning self.old.controllers self.old.members self.old.clients
+            self.old.stations }
+        ensures answer { IfOk result (λ actions.
+            station_step (slice_get self.old.stations at) at event.now now self.old
+            chances.old ≡ end_done (EndId.Station at) self.new chances.new actions) }
+        ensures spent { result ≡ Err StepRefused.Spent → chances.new.left ≡ [] }
+        ensures few { length chances.old.left ≤ length chances.new.left + draws_at event.now }
+        ensures short { IfOk result (λ actions. AreShortSends actions) }
+        ensures runs { result ≢ Err StepRefused.Stopped }
+        ensures outcomes { OutcomesStay self.old.clients self.new.clients }
+    {
+        if at >= self.stations.len() {
+            return Ok(Actions::new(alloc));
+        }
+        match self.stations[at].step(alloc, event, now, chances) {
             Ok(actions) => Ok(actions),
             Err(why) => {
                 self.gave_up = true;
@@ -308,12 +362,15 @@ impl Ends {
         Ok(had)
     }
 
-    /// Clients that had no outcome have none, and no end takes a step any more. It takes no memory.
+    /// Clients that had no outcome have none, stations are let go, and no end takes a step any more. It takes no
+    /// memory.
     pub(crate) fn give_up(&mut self, alloc: Global, had: &[bool])
-        ensures { OutcomesFall had.now self.old.clients self.new.clients }
+        ensures clients { OutcomesFall had.now self.old.clients self.new.clients }
+        ensures stations { self.new.stations ≡ [] }
     {
         let clients = mem::replace(&mut self.clients, Vec::new(alloc));
         self.gave_up = true;
+        self.stations = Vec::new(alloc);
         self.clients = without_new(alloc, clients, had);
     }
 
@@ -336,6 +393,16 @@ impl Ends {
     {
         if at < self.clients.len() {
             self.clients[at] = client;
+        }
+    }
+
+    /// This station is in the place of the one of that number, if there is one.
+    pub(crate) fn put_station(&mut self, at: usize, station: Station)
+        requires { IsSome station.running }
+        ensures { self.new ≡ with_station at station self.old }
+    {
+        if at < self.stations.len() {
+            self.stations[at] = station;
         }
     }
 }

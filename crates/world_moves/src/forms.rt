@@ -1,9 +1,10 @@
 //! What the types of a plan's parts give of themselves, which is known by calls that do nothing.
 
 ghost use Rattle.std.specs.Prelude.{◌<◌, ◌^◌, All};
-ghost use Rattle.world_moves.specs.Forms.{AreUnits, IsBlock, IsClientPlan, IsMemberPlan, IsNextHash, IsTable};
+ghost use Rattle.world_moves.specs.Forms.{AreUnits, IsBlock, IsClientPlan, IsMemberPlan, IsNextHash, IsStationPlan, IsTable};
 
 use account_table::{Table, are_bytes, is_hash};
+use interactive_station::StationPlan;
 use logon_client::ClientPlan;
 use member_server::MemberPlan;
 
@@ -62,6 +63,27 @@ fn client_has_form(plan: &ClientPlan)
     are_units(plan.domain.units());
     are_units(plan.user.units());
     are_units(plan.workstation.units());
+    is_hash(plan.hash);
+}
+
+/// Each plan of a station has the form that its type gives it.
+pub(crate) fn stations_have_forms(plans: &[StationPlan])
+    ensures { All IsStationPlan plans.now }
+{
+    for plan in plans {
+        station_has_form(plan);
+    }
+}
+
+/// The plan has that form.
+fn station_has_form(plan: &StationPlan)
+    ensures { IsStationPlan plan.now }
+{
+    are_bytes(plan.controller.bytes());
+    let _computer = plan.computer.bytes();
+    is_hash(plan.secret);
+    are_units(plan.domain.units());
+    are_units(plan.user.units());
     is_hash(plan.hash);
 }
 

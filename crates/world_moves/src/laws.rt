@@ -12,15 +12,16 @@ pub fn a_run_ends_in_its_last_state()
     ensures { (moves : List Move) (w : World) → last_of (run_of moves w) w ≡ run moves w }
 {}
 
-/// In a world of a plan in which nothing seals, since its controllers can't and no member's plan asks for it, an end
-/// hears as one that can't seal, and is made anew as one; and nothing seals in it, whatever moves are made.
+/// In a plain world, in which nothing seals, since its controllers can't and no member's plan asks for it, and no
+/// station stands, an end hears as one that can't seal, and is made anew as one; a station hears nothing; and it stays
+/// such a world, whatever moves are made.
 #[tactic(auto, using(crate::proofs::PlainLaws::hears_plainly))]
-pub fn who_seals_nothing_hears_plainly()
+pub fn a_plain_world_hears_plainly()
     ensures { HearsPlainly }
 {}
 
-/// In a world in which nothing seals, and whose controllers ask nobody, since its plan doesn't let them or its tables
-/// trust no domain, an end hears as it does where controllers trust no domain. That stays so, whatever moves are made.
+/// In a plain world whose controllers ask nobody, since its plan doesn't let them or its tables trust no domain, an end
+/// hears as it does where controllers trust no domain; and it stays such a world, whatever moves are made.
 #[tactic(auto, using(crate::proofs::AloneLaws::hears_alone))]
 pub fn who_asks_nobody_hears_alone()
     ensures { HearsAlone }

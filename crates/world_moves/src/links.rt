@@ -9,12 +9,13 @@ use std::alloc::Global;
 use std::marker::Model;
 use wire_base::{List, NoMemory};
 
-/// An end of a world: which controller, member or client of the plan, counted from 0.
+/// An end of a world: which controller, member, client or station of the plan, counted from 0.
 #[derive(Clone, Copy, Debug, PartialEq, Eq)]
 pub enum EndId {
     Controller(usize),
     Member(usize),
     Client(usize),
+    Station(usize),
 }
 
 /// Whether both are the same end.
@@ -25,6 +26,7 @@ pub(crate) fn same_end(one: EndId, other: EndId) -> bool
         (EndId::Controller(one), EndId::Controller(other)) => one == other,
         (EndId::Member(one), EndId::Member(other)) => one == other,
         (EndId::Client(one), EndId::Client(other)) => one == other,
+        (EndId::Station(one), EndId::Station(other)) => one == other,
         _ => false,
     }
 }
@@ -38,6 +40,8 @@ pub enum LinkKind {
     ToController,
     /// From a controller to another one.
     Between,
+    /// From a station to a controller.
+    FromStation,
     /// From a stranger to a controller or member.
     Stranger,
 }
@@ -50,6 +54,7 @@ fn same_kind(one: LinkKind, other: LinkKind) -> bool
         (LinkKind::ToMember, LinkKind::ToMember) => true,
         (LinkKind::ToController, LinkKind::ToController) => true,
         (LinkKind::Between, LinkKind::Between) => true,
+        (LinkKind::FromStation, LinkKind::FromStation) => true,
         (LinkKind::Stranger, LinkKind::Stranger) => true,
         _ => false,
     }
@@ -77,6 +82,7 @@ pub enum Route {
     ToMember { client: usize, member: usize },
     ToController { member: usize, controller: usize },
     Between { from: usize, to: usize },
+    FromStation { station: usize, controller: usize },
     Stranger(EndId),
 }
 
@@ -89,6 +95,7 @@ impl Route {
             Route::ToMember { .. } => LinkKind::ToMember,
             Route::ToController { .. } => LinkKind::ToController,
             Route::Between { .. } => LinkKind::Between,
+            Route::FromStation { .. } => LinkKind::FromStation,
             Route::Stranger(_) => LinkKind::Stranger,
         }
     }
@@ -108,6 +115,7 @@ impl Route {
             Route::ToMember { client, .. } => Some(EndId::Client(client)),
             Route::ToController { member, .. } => Some(EndId::Member(member)),
             Route::Between { from, .. } => Some(EndId::Controller(from)),
+            Route::FromStation { station, .. } => Some(EndId::Station(station)),
             Route::Stranger(_) => None,
         }
     }
@@ -137,6 +145,7 @@ impl Route {
             Route::ToMember { member, .. } => EndId::Member(member),
             Route::ToController { controller, .. } => EndId::Controller(controller),
             Route::Between { to, .. } => EndId::Controller(to),
+            Route::FromStation { controller, .. } => EndId::Controller(controller),
             Route::Stranger(to) => to,
         }
     }
@@ -218,6 +227,7 @@ pub struct WorldLinks {
     to_members: Vec<u32>,
     to_controllers: Vec<u32>,
     between: Vec<u32>,
+    from_stations: Vec<u32>,
     strangers: Vec<u32>,
     handed: Vec<u32>,
 }
@@ -232,7 +242,7 @@ impl Model for WorldLinks {
     ghost view = { λ l. l.routes.items };
 
     ghost invariant = { λ l. AreIndexes l.routes.items l.to_members.items l.to_controllers.items
-        l.between.items l.strangers.items l.handed.items };
+        l.between.items l.from_stations.items l.strangers.items l.handed.items };
 }
 
 impl WorldLinks {
@@ -245,6 +255,7 @@ impl WorldLinks {
             to_members: Vec::new(alloc),
             to_controllers: Vec::new(alloc),
             between: Vec::new(alloc),
+            from_stations: Vec::new(alloc),
             strangers: Vec::new(alloc),
             handed: Vec::new(alloc),
         }
@@ -275,6 +286,7 @@ impl WorldLinks {
             mut to_members,
             mut to_controllers,
             mut between,
+            mut from_stations,
             mut strangers,
             mut handed,
         } = self;
@@ -282,6 +294,7 @@ impl WorldLinks {
         to_members = push_if(to_members, route.is_of(LinkKind::ToMember), number)?;
         to_controllers = push_if(to_controllers, route.is_of(LinkKind::ToController), number)?;
         between = push_if(between, route.is_of(LinkKind::Between), number)?;
+        from_stations = push_if(from_stations, route.is_of(LinkKind::FromStation), number)?;
         strangers = push_if(strangers, route.is_of(LinkKind::Stranger), number)?;
         handed = push_if(handed, route.kind().is_handed(), number)?;
         routes.push(route)?;
@@ -290,6 +303,7 @@ impl WorldLinks {
             to_members,
             to_controllers,
             between,
+            from_stations,
             strangers,
             handed,
         })
@@ -303,6 +317,7 @@ impl WorldLinks {
             LinkKind::ToMember => chosen_in(number, self.to_members.as_slice()),
             LinkKind::ToController => chosen_in(number, self.to_controllers.as_slice()),
             LinkKind::Between => chosen_in(number, self.between.as_slice()),
+            LinkKind::FromStation => chosen_in(number, self.from_stations.as_slice()),
             LinkKind::Stranger => chosen_in(number, self.strangers.as_slice()),
         }
     }

@@ -1,6 +1,8 @@
 //! A world as it is made from its plan.
 
 ghost use Rattle.std.specs.Prelude.{◌≡◌, ◌+◌, ◌<◌, ◌^◌, true, map, length, All, IfOk};
+ghost use Rattle.interactive_station.specs.Machine.{fresh_station};
+ghost use Rattle.interactive_station.specs.Plans.{CanStation};
 ghost use Rattle.logon_client.specs.Machine.{fresh_client};
 ghost use Rattle.logon_client.specs.Plans.{CanLogOn};
 ghost use Rattle.member_server.specs.SealStep.{sealing_member};
@@ -11,9 +13,13 @@ use crate::counting::Counts;
 use crate::ends::{Ends, fresh_controller};
 use crate::links::{OpenLinks, WorldLinks};
 use crate::maker::Maker;
-use crate::plan::{ClientPlans, ClientTask, ClientTasks, MemberPlans, Plan, Tables};
+use crate::plan::{
+    ClientPlans, ClientTask, ClientTasks, MemberPlans, Plan, StationPlans, StationTask,
+    StationTasks, Tables,
+};
 use crate::state::State;
 use domain_controller::Controller;
+use interactive_station::Station;
 use logon_client::Client;
 use member_server::Member;
 use std::alloc::Global;
@@ -29,12 +35,14 @@ pub(crate) fn first_state(alloc: Global, plan: Plan) -> Result<State, NoMemory>
         controllers,
         members,
         clients,
+        stations,
         hands_on,
         seals,
         now,
         seed,
     } = plan;
     let client_plans = tasks_of(alloc, clients)?;
+    let station_plans = station_tasks_of(alloc, stations)?;
     let ends = first_ends(
         alloc,
         hands_on,
@@ -43,11 +51,13 @@ pub(crate) fn first_state(alloc: Global, plan: Plan) -> Result<State, NoMemory>
         controllers,
         &members,
         &client_plans,
+        &station_plans,
     )?;
     Ok(State {
         ends,
         member_plans: members,
         client_plans,
+        station_plans,
         hands_on,
         seals,
         links: WorldLinks::new(alloc),
@@ -70,28 +80,39 @@ fn first_ends(
     names: Names,
     members: &MemberPlans,
     clients: &ClientTasks,
+    stations: &StationTasks,
 ) -> Result<Ends, NoMemory>
     ensures { IfOk result (λ ends. ends ≡ record {
       controllers = first_controllers hands_on seals tables names;
       members = map sealing_member members.now;
       clients = map fresh_client clients.now;
+      stations = map fresh_station stations.now;
     }) }
 {
     let controllers = first_controllers(alloc, hands_on, seals, tables, names)?;
     let members = first_members(alloc, members)?;
     let clients = first_clients(alloc, clients)?;
-    if !can_be_numbered(controllers.len(), members.len(), clients.len()) {
+    let stations = first_stations(alloc, stations)?;
+    if !can_be_numbered(
+        controllers.len(),
+        members.len(),
+        clients.len(),
+        stations.len(),
+    ) {
         return Err(NoMemory);
     }
-    Ok(Ends::new(controllers, members, clients))
+    Ok(Ends::new(controllers, members, clients, stations))
 }
 
-/// Whether as many ends can be numbered as controllers, members and clients are.
-fn can_be_numbered(controllers: usize, members: usize, clients: usize) -> bool
-    ensures { result ≡ true → controllers + members + clients < 2 ^ 64 }
+/// Whether as many ends can be numbered as controllers, members, clients and stations are.
+fn can_be_numbered(controllers: usize, members: usize, clients: usize, stations: usize) -> bool
+    ensures { result ≡ true → controllers + members + clients + stations < 2 ^ 64 }
 {
-    match controllers.checked_add(members) {
-        Some(acceptors) => acceptors.checked_add(clients).is_some(),
+    let Some(acceptors) = controllers.checked_add(members) else {
+        return false;
+    };
+    match acceptors.checked_add(clients) {
+        Some(others) => others.checked_add(stations).is_some(),
         None => false,
     }
 }
@@ -150,4 +171,27 @@ fn first_clients(alloc: Global, tasks: &ClientTasks) -> Result<Vec<Client>, NoMe
         clients.push(task.client(alloc)?)?;
     }
     Ok(clients)
+}
+
+/// The plans, each as one that a station can follow.
+fn station_tasks_of(alloc: Global, plans: StationPlans) -> Result<StationTasks, NoMemory>
+    requires { All CanStation plans }
+    ensures { IfOk result (λ tasks. tasks ≡ plans) }
+{
+    let mut tasks = StationTasks::new(alloc);
+    for plan in plans.into_vec() {
+        tasks.push(StationTask::new(plan))?;
+    }
+    Ok(tasks)
+}
+
+/// The stations, by their plans.
+fn first_stations(alloc: Global, tasks: &StationTasks) -> Result<Vec<Station>, NoMemory>
+    ensures { IfOk result (λ stations. stations.items ≡ map fresh_station tasks.now) }
+{
+    let mut stations = Vec::new(alloc);
+    for task in tasks.items() {
+        stations.push(task.station(alloc)?)?;
+    }
+    Ok(stations)
 }

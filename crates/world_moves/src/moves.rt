@@ -10,11 +10,12 @@ use std::alloc::Global;
 use wire_base::{Blob, List, NoMemory};
 
 /// One move of a world (this project's own choice). Links and units of the bag are numbered from 0, ends as
-/// controllers, members and then clients. A number chooses by its remainder among what there is to choose from; where
-/// there is nothing, the move changes nothing.
+/// controllers, members, clients and then stations. A number chooses by its remainder among what there is to choose
+/// from; where there is nothing, the move changes nothing.
 #[derive(Debug, Drop)]
 pub enum Move {
-    /// The client is made anew from its plan, and begins.
+    /// The client or station, of which the number chooses among the clients and then the stations, is made anew from
+    /// its plan, and begins.
     Start(u32),
     /// A stranger opens a link at the controller or member.
     Stranger(u32),

@@ -3,7 +3,7 @@
 ghost use Rattle.std.specs.Prelude.{◌≡◌, ◌≢◌, [], Err, ◌<◌, ◌≤◌, ◌+◌, ◌*◌, ◌^◌, length, IfOk, OnOk, OnErr, slice_get};
 ghost use Rattle.end_links.specs.Bounds.{AreShortSends};
 ghost use Rattle.world_moves.specs.Bounds.{DrawsWithin, draw_limit, piece_draws, unit_draws};
-ghost use Rattle.world_moves.specs.Moving.{act, start, open_link, stranger, end_of_peer, between_if, route_to, answered_link, answer, connect_by, without_first, connect, fail_dial, come, onward, lose, deliver, hand, shut, renewed, restart, change, changed, moment_after, tick};
+ghost use Rattle.world_moves.specs.Moving.{act, start, start_station, open_link, stranger, end_of_peer, between_if, route_to, answered_link, answer, connect_by, without_first, connect, fail_dial, come, onward, lose, deliver, hand, shut, renewed, restart, change, changed, moment_after, tick};
 ghost use Rattle.world_moves.specs.Outcomes.{KeepsOutcomes};
 ghost use Rattle.world_moves.specs.World.{IsMove};
 
@@ -22,8 +22,8 @@ use wire_base::{Blob, List, NoMemory, put_number};
 const LAST_MOMENT: u64 = 1 << 63;
 
 impl State {
-    /// The client is made anew from its plan, and begins.
-    #[tactic(auto, using(crate::proofs::OutcomeLaws::stays_same, crate::proofs::OutcomeLaws::stays_on))]
+    /// The client or station that the number chooses is made anew from its plan, and begins.
+    #[tactic(auto, using(crate::proofs::StartLaws::none_past, crate::proofs::OutcomeLaws::stays_same, crate::proofs::OutcomeLaws::stays_on))]
     fn start(&mut self, alloc: Global, number: u32) -> Result<(), StepRefused>
         ensures state { OnOk result (self.new ≡ (start number self.old).state) }
         ensures spent { result ≡ Err StepRefused.Spent → self.new.chances.left ≡ [] }
@@ -31,11 +31,12 @@ impl State {
         ensures runs { result ≢ Err StepRefused.Stopped }
         ensures outcomes { OnErr result (KeepsOutcomes self.old self.new) }
     {
-        let Some(at) = chosen_place(number, self.ends.client_count()) else {
+        let Some(at) = chosen_place(number, self.ends.starters()) else {
             return Ok(());
         };
         let Some(task) = self.client_plans.get(at) else {
-            return Ok(());
+            let clients = self.client_plans.len();
+            return self.start_station(alloc, at - clients);
         };
         let mut client = task.client(alloc)?;
         let actions = client.begin(alloc)?;
@@ -43,6 +44,27 @@ impl State {
         self.counts = self.counts.add(EndId::Client(at), actions.items());
         self.perform_all(alloc, EndId::Client(at), actions)?;
         self.ends.put_client(at, client);
+        Ok(())
+    }
+
+    /// The station is made anew from its plan, and begins.
+    #[tactic(auto, using(crate::proofs::OutcomeLaws::stays_same, crate::proofs::OutcomeLaws::stays_on))]
+    fn start_station(&mut self, alloc: Global, at: usize) -> Result<(), StepRefused>
+        ensures state { OnOk result (self.new ≡ (start_station at self.old).state) }
+        ensures spent { result ≡ Err StepRefused.Spent → self.new.chances.left ≡ [] }
+        ensures few { DrawsWithin 0 self.old self.new }
+        ensures runs { result ≢ Err StepRefused.Stopped }
+        ensures outcomes { OnErr result (KeepsOutcomes self.old self.new) }
+    {
+        let Some(task) = self.station_plans.get(at) else {
+            return Ok(());
+        };
+        let mut station = task.station(alloc)?;
+        let actions = station.begin(alloc)?;
+        self.forget(alloc, EndId::Station(at))?;
+        self.counts = self.counts.add(EndId::Station(at), actions.items());
+        self.perform_all(alloc, EndId::Station(at), actions)?;
+        self.ends.put_station(at, station);
         Ok(())
     }
 
@@ -348,6 +370,14 @@ impl State {
                 }
                 None => Ok(()),
             },
+            EndId::Station(at) => match self.station_plans.get(at) {
+                Some(task) => {
+                    let station = task.station(alloc)?;
+                    self.ends.put_station(at, station);
+                    Ok(())
+                }
+                None => Ok(()),
+            },
         }
     }
 
@@ -456,6 +486,12 @@ fn route_to(end: EndId, to: Option<EndId>) -> Option<Route>
             Some(Route::ToController { member, controller })
         }
         (EndId::Controller(from), Some(EndId::Controller(to))) => between_if(from == to, from, to),
+        (EndId::Station(station), Some(EndId::Controller(controller))) => {
+            Some(Route::FromStation {
+                station,
+                controller,
+            })
+        }
         _ => None,
     }
 }

@@ -7,14 +7,15 @@ ghost use Rattle.world_moves.specs.Bag.{AreShortUnits, HaveBytes};
 ghost use Rattle.world_moves.specs.Bounds.{HasChallengesFor};
 ghost use Rattle.world_moves.specs.Counting.{AreCounted};
 ghost use Rattle.world_moves.specs.Draws.{DrawsAreBlocks, DrawsDiffer};
-ghost use Rattle.world_moves.specs.Outcomes.{HasOutcomesOf};
-ghost use Rattle.world_moves.specs.World.{IsPlan, IsMove, move_limit, actions_of_run, first_world, happens, kept_of, run, run_of, report_of, report_of_run, outcome_of};
+ghost use Rattle.world_moves.specs.Outcomes.{HasOutcomesOf, HasNoOtherOutcomes};
+ghost use Rattle.world_moves.specs.World.{IsPlan, IsMove, move_limit, counted_of_run, first_world, happens, kept_of, run, run_of, report_of, report_of_run, outcome_of, station_outcome_of};
 
 use crate::counting::Report;
 use crate::making::first_state;
 use crate::moves::Move;
 use crate::plan::Plan;
 use crate::state::State;
+use interactive_station::StationOutcome;
 use logon_client::ClientOutcome;
 use outside::StepRefused;
 use secret_change::Secrets;
@@ -34,8 +35,8 @@ pub enum WorldRefused {
     Stopped,
 }
 
-/// Controllers, members and clients, the links between them, and what is under way (this project's own choice). It
-/// keeps no moves.
+/// Controllers, members, clients and stations, the links between them, and what is under way (this project's own
+/// choice). It keeps no moves.
 #[derive(Drop)]
 pub struct World {
     state: State,
@@ -70,10 +71,10 @@ impl World {
 
     /// Makes a move. A world makes at most 100,000.
     ///
-    /// `Memory` where no memory was found: after it the world answers `Stopped` for ever, and each client has the
-    /// outcome that it had before the move. It isn't told for want of challenges: they are left for each move that a
-    /// world makes, whatever the earlier ones came to.
-    #[tactic(auto, using(crate::proofs::OpenLaws::never_spent, crate::proofs::OpenLaws::left_after, crate::proofs::OpenLaws::left_still))]
+    /// `Memory` where no memory was found: after it the world answers `Stopped` for ever, each client has the outcome
+    /// that it had before the move, and no station has another one than it had; it may have none any more. It isn't
+    /// told for want of challenges: they are left for each move that a world makes, whatever the earlier ones came to.
+    #[tactic(auto, using(crate::proofs::OpenLaws::never_spent, crate::proofs::OpenLaws::left_after, crate::proofs::OpenLaws::left_still, crate::proofs::OutcomeLaws::none_other, crate::proofs::OutcomeLaws::same_other))]
     pub fn step(&mut self, alloc: Global, what: &Move) -> Result<(), WorldRefused>
         requires few { self.old.moves < move_limit }
         requires given { IsMove what.now }
@@ -86,6 +87,8 @@ impl World {
         ensures kept { OnErr result (report_of self.new ≡ report_of self.old) }
         // An outcome that a client got in it is taken back, and each other stays.
         ensures outcomes { OnErr result (HasOutcomesOf self.old self.new) }
+        // So is one that a station got, and others of stations may be lost with it.
+        ensures stations { OnErr result (HasNoOtherOutcomes self.old self.new) }
         // Whatever it comes to, challenges are left for each further move that a world makes.
         ensures left { self.old.stopped ≡ false →
             HasChallengesFor (move_limit - (self.old.moves + 1)) self.new.state }
@@ -131,13 +134,13 @@ impl World {
     #[tactic(auto, using(crate::proofs::RunLaws::counted_so))]
     pub fn report(&self) -> Report
         ensures value { result ≡ report_of self.now }
-        // Of a run from a plan what is counted are the actions that its ends gave.
+        // Of a run from a plan what is counted are the actions that its controllers and members gave.
         ensures counted { (plan : Plan) (moves : List Move) →
             self.now ≡ run moves (first_world plan) → result ≡ report_of_run plan moves }
         // No count has come to the end of its type: each is the number of such actions of the run.
         ensures fits { (plan : Plan) (moves : List Move) →
             self.now ≡ run moves (first_world plan) →
-            AreCounted result (actions_of_run (run_of moves (first_world plan))) (length moves) }
+            AreCounted result (counted_of_run (run_of moves (first_world plan))) (length moves) }
     {
         let counts = self.state.counts;
         Report {
@@ -185,6 +188,17 @@ impl World {
     {
         match self.state.ends.client(client as usize) {
             Some(client) => client.outcome(),
+            None => None,
+        }
+    }
+
+    /// The outcome of the station at that place of the plan's list. None exactly where there is no such station, or it
+    /// has no outcome: it has none yet, or the world has stopped and lost it. It takes no memory.
+    pub fn station(&self, station: u32) -> Option<&StationOutcome>
+        ensures { option_copied result ≡ station_outcome_of self.now station }
+    {
+        match self.state.ends.station(station as usize) {
+            Some(station) => station.outcome(),
             None => None,
         }
     }

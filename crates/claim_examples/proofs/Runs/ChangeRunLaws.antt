@@ -13,7 +13,7 @@ use Rattle.secret_change.specs.Secrets.{SecretsState, alone}
 use Rattle.step_notes.specs.Records.{Book, Judging, OfMember, RequesterId}
 use Rattle.world_moves.specs.declared.moves.Move.{Move}
 use Rattle.world_moves.specs.declared.moves.Move.TheVariants as move
-use Rattle.world_moves.specs.Forms.{HasForms, HasMoveForm, IsAccount, IsByte, IsClientPlan, IsMemberPlan, IsSchedule, IsTable}
+use Rattle.world_moves.specs.Forms.{HasForms, HasMoveForm, IsAccount, IsByte, IsClientPlan, IsMemberPlan, IsSchedule, IsStationPlan, IsTable}
 use Rattle.world_moves.specs.World.{IsMove, World, first_world, move_limit}
 use Rattle.world_moves.proofs.AloneLaws.{plain_plan}
 use Rattle.domain_world.specs.Claims.{IsClear, Wraps}
@@ -28,6 +28,7 @@ use Rattle.claim_examples.proofs.CompletenessLaws.{a_name, account_form, table_f
 use Rattle.claim_examples.proofs.NeverApartExampleLaws.{file1_named, machine_form, member_form}
 use Rattle.claim_examples.proofs.Runs.ChangeDrawLaws.{change_draws, first_left, left_behind}
 use Rattle.claim_examples.proofs.Runs.ChangeShownLaws.{Ended, Seen, Shows, calm_with, change_is_seen, end_is_seen, ended_in, first_timestamp, look, older_timestamp, seen_in, world_with}
+use Rattle.interactive_station.specs.Plans.{CanStation}
 
 -- ---- the start
 
@@ -89,6 +90,7 @@ changing_forms = record {
   controllers = All-from_recursion IsName changing_plan.controllers (a_name (codes "PDC") (omega arith) ((omega arith, omega arith), ((omega arith, omega arith), ((omega arith, omega arith), tt))), tt);
   members = All-from_recursion IsMemberPlan changing_plan.members (member_form (codes "FILE1") 0x41 0 file1_named (omega arith) (omega arith), tt);
   clients = All-from_recursion IsClientPlan changing_plan.clients (ann_form, tt);
+  stations = All-nil IsStationPlan;
   now = omega arith;
   seed = (refl, All-replicate IsByte 32 0 (omega arith));
 }
@@ -134,7 +136,7 @@ in_can = All-append CanBeMade learned_moves (turn_moves ++ move.Onward ∷ move.
 
 pub schedule_by : (moves : List Move) → length moves ≤ move_limit → All CanBeMade moves → IsSchedule changing_plan moves
 schedule_by moves few can = record {
-  start = record { tables = refl; clients = All-from_recursion CanLogOn changing_plan.clients (ann_follows, tt) };
+  start = record { tables = refl; clients = All-from_recursion CanLogOn changing_plan.clients (ann_follows, tt); stations = All-nil CanStation };
   forms = changing_forms;
   few = few;
   each = All-weaker CanBeMade IsMove (λ what both. both.0) moves can;
@@ -190,7 +192,7 @@ leaves_none moves judged older at_controller secrets few other schedule is =
       clear = clear;
       own = own;
       has = record { hash = ap Seen.hash is; held = ap Seen.held is; kept = ap Seen.kept is };
-      claimed = λ proved. proved.never_apart (record { controllers = refl; members = (refl, tt) }) (inl (plain_plan changing_plan refl refl)) schedule clear own 0 changing_begins;
+      claimed = λ proved. proved.never_apart (record { controllers = refl; members = (refl, tt); stations = refl }) (inl (plain_plan changing_plan refl refl)) schedule clear own 0 changing_begins;
     }
 
 in_shown : ended_in (past changing_plan in_moves).world (past changing_plan in_moves).book

@@ -46,9 +46,9 @@ use Rattle.world_moves.specs.Unforwarded.{IsJudgedAlone}
 use Rattle.world_moves.specs.Counting.{is_in}
 use Rattle.world_moves.specs.Choosing.{chosen_place}
 use Rattle.world_moves.specs.Forms.{HasForms}
-use Rattle.world_moves.specs.World.{IsPlan, World, first_world, happens, run}
+use Rattle.world_moves.specs.World.{IsPlan, World, first_world, happens, run, starters_of}
 use Rattle.world_moves.proofs.AloneLaws.{plain_plan}
-use Rattle.world_moves.specs.Plain.{NothingSeals}
+use Rattle.world_moves.specs.Plain.{IsPlainPlan}
 use Rattle.domain_world.specs.Claims.{AcceptsOnlyGranted, IsAccepted, TravelsAsZeros, Wraps}
 use Rattle.domain_world.specs.Claims.Completeness.{IsPlainMove, IsQuiet, IsQuietAt, OneAtATime, started_in}
 use Rattle.domain_world.specs.Claims.LetIn.{IsLetInBy, LetsInWhoAsked}
@@ -178,7 +178,7 @@ told_leads key base s v unit later end none shows first leads k b f =
     }
 
 module _ (plan : Plan) (client member controller : ℕ) (can : CanComeIn plan client member controller) (is : IsPlan plan) (forms : HasForms plan) (number : ℕ)
-    (chosen : chosen_place number (length plan.clients) ≡ Some client) (arrives : FirstKeyArrives plan client member controller can) where
+    (chosen : chosen_place number (starters_of plan) ≡ Some client) (arrives : FirstKeyArrives plan client member controller can) where
   abbrev g : Meeting
   g = first_meeting plan client member controller can
 
@@ -369,7 +369,7 @@ module _ (plan : Plan) (client member controller : ℕ) (can : CanComeIn plan cl
       meets_trail seen_so (turn_moves ++ turn_moves ++ turn_moves ++ move.Onward ∷ echo_moves silent) (EndsSo silent)
       (turns_trail seen_so (move.Onward ∷ echo_moves silent) (EndsSo silent) (end_trail seen_so silent refl)) 0 blank (record { apart = refl; few = omega arith; marked = refl })
 
-  lets_in_clearly : NothingSeals plan → LetsInClearly (past plan (logon_moves number (can.task.echo == 0)))
+  lets_in_clearly : IsPlainPlan plan → LetsInClearly (past plan (logon_moves number (can.task.echo == 0)))
   lets_in_clearly nothing =
       let now : Past = past plan (logon_moves number (can.task.echo == 0)) in
       record {
@@ -412,8 +412,8 @@ ann_rests =
     subst (λ (silent : Bool). IsQuiet (run (logon_moves 0 silent) (first_world ann_plan))) (ann_echoes can)
     (rests_so (run (logon_moves 0 (can.task.echo == 0)) (first_world ann_plan)) _ refl refl an_example_logs_on.comes.rests)
 
-ann_unsealed : NothingSeals ann_plan
-ann_unsealed = record { controllers = refl; members = (refl, tt) }
+ann_unsealed : IsPlainPlan ann_plan
+ann_unsealed = record { controllers = refl; members = (refl, tt); stations = refl }
 
 ann_clear : LetsInClearly (past ann_plan ann_moves)
 ann_clear =
@@ -449,7 +449,7 @@ first_logons_are_clear = record {
       let clear = ann_clear.clear in
       let schedule = an_example_logs_on.schedule in
       let alone : IsJudgedAlone ann_plan ann_moves = inl (plain_plan ann_plan refl refl) in
-      let nothing : NothingSeals ann_plan = ann_unsealed in
+      let nothing : IsPlainPlan ann_plan = ann_unsealed in
       record {
         only = proved.only nothing alone schedule clear;
         all = proved.all nothing alone schedule clear;

@@ -23,7 +23,7 @@ use Rattle.world_moves.specs.declared.plan.Plan.{Plan}
 use Rattle.world_moves.specs.declared.state.State.{State}
 use Rattle.world_moves.specs.Choosing.{chosen_place}
 use Rattle.world_moves.specs.Forms.{HasForms}
-use Rattle.world_moves.specs.World.{IsPlan, first_world}
+use Rattle.world_moves.specs.World.{IsPlan, first_world, starters_of}
 use Rattle.domain_world.specs.Claims.Completeness.{CanSucceed, ComesOneAtATime, InEachState, IsMadeForClient, KeyArrives, MayLogOnIn, OwnKeysArrive, info_planned}
 use Rattle.domain_world.specs.Past.{past}
 use Rattle.logon_steps.specs.Granting.{cleared}
@@ -57,7 +57,7 @@ may_here info s v shows may =
 
 -- in each state of the first logon in a world, with Echo
 may_each : (plan : Plan) (client member controller : ℕ) (can : CanComeIn plan client member controller) → IsPlan plan → HasForms plan → (number : ℕ) →
-    chosen_place number (length plan.clients) ≡ Some client → FirstKeyArrives plan client member controller can → (can.task.echo == 0) ≡ false → (info : NetworkInfo) →
+    chosen_place number (starters_of plan) ≡ Some client → FirstKeyArrives plan client member controller can → (can.task.echo == 0) ≡ false → (info : NetworkInfo) →
     MayLogOn can.table info plan.now → MayLogOn (cleared can.table can.task.user) info plan.now → InEachState (MayLogOnIn controller info) (logon_moves number false) (first_world plan)
 may_each plan client member controller can is forms number chosen arrives some info before behind =
     let g : Meeting = first_meeting plan client member controller can in
@@ -219,7 +219,7 @@ ann_comes_so : ComesOneAtATime ann_clashed ann_moves
 ann_comes_so = record { schedule = ann_comes.schedule; plain = ann_comes.plain; once = ann_comes.once; quiet = ann_comes.quiet }
 
 ann_alone : IsPlainAlone ann_plan
-ann_alone = alone_if ann_plan (record { controllers = refl; members = (refl, tt) }) refl
+ann_alone = alone_if ann_plan (record { controllers = refl; members = (refl, tt); stations = refl }) refl
 
 pub ann_can_succeed : AnnCanSucceed
 ann_can_succeed = record {

@@ -20,7 +20,7 @@ use Rattle.world_moves.specs.Choosing.{chosen_place}
 use Rattle.world_moves.specs.Ends.{EndStates}
 use Rattle.world_moves.specs.Forms.{HasForms}
 use Rattle.world_moves.specs.Moving.{end_of_peer}
-use Rattle.world_moves.specs.World.{IsPlan, World, first_world, happens, run}
+use Rattle.world_moves.specs.World.{IsPlan, World, first_world, happens, run, starters_of}
 use Rattle.domain_world.specs.Past.{controller_number, controller_of_plan, past, requester_in, running_in, controller_asked}
 use Rattle.logon_steps.specs.Answering.{moved}
 use Rattle.logon_runs.specs.FirstLogon.FirstLogonRuns.{after_first}
@@ -48,7 +48,7 @@ by_plan found plan ends controller is reaches =
 
 -- ---- the channel
 
-module _ (plan : Plan) (client member controller number : ℕ) (is : IsPlan plan) (forms : HasForms plan) (chosen : chosen_place number (length plan.clients) ≡ Some client)
+module _ (plan : Plan) (client member controller number : ℕ) (is : IsPlan plan) (forms : HasForms plan) (chosen : chosen_place number (starters_of plan) ≡ Some client)
     (can : CanComeIn plan client member controller) (arrives : FirstKeyArrives plan client member controller can) where
   abbrev moves : List Move
   moves = logon_moves number (can.task.echo == 0)

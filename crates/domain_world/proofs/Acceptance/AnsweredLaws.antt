@@ -41,7 +41,7 @@ use Rattle.controller_calls.specs.declared.calls.JudgedCall.TheVariants.{Network
 use Rattle.step_notes.specs.ReplySends.{IsReplyOfCall, done_on, verdict_passed}
 use Rattle.world_moves.specs.declared.bag.BagUnit.{BagUnit}
 use Rattle.world_moves.specs.Counting.{is_in}
-use Rattle.domain_world.specs.Accepting.Answered.{AnswersAreHeard, AsksForIt, IsAnsweredIn, IsLetInAsRead, IsProved, IsToldAsRead, outcome_read, verdict_read}
+use Rattle.domain_world.specs.Accepting.Answered.{AnswersAreHeard, AsksForIt, IsAnsweredIn, IsLetInAsRead, AnswersAreJudged, IsToldAsRead, outcome_read, verdict_read}
 use Rattle.domain_world.specs.Claims.{AcceptsAllGranted, AcceptsOnlyGranted, AreRightlyTold, AreTheirJudgements, HasController, HasKey, IsAccepted, IsClear, IsGrantedBy, IsItsControllersAnswer, IsMadeFor, IsToldIn, KeysAgree, PassesOnce, TravelsAsZeros, answers, info_asked, judgements_of_calls, key_bytes, passed_on, same_unit, taken_answer}
 use Rattle.domain_world.specs.Claims.Counts.{EachCallRaisesOnce}
 use Rattle.domain_world.specs.Claims.Grants.{IsToBeGranted}
@@ -212,7 +212,7 @@ pub record IsJudgedAs (past : Past) (message : MessageTaken) (unit : ℕ) : Type
   pub taken : taken_answer message past.book.judged ≡ Some j
   pub with_controller : HasController (slice_get past.plan.members message.member) past.world.state.ends j.controller
 
-module _ (past : Past) (known : IsProved past) (heard : AnswersAreHeard past) (clear : IsClear past.book) where
+module _ (past : Past) (known : AnswersAreJudged past) (heard : AnswersAreHeard past) (clear : IsClear past.book) where
   abbrev all_judged : List Judging
   all_judged = past.book.judged
 

@@ -43,7 +43,7 @@ use Rattle.world_moves.specs.Ends.{EndStep, actions_by, client_step, no_step}
 use Rattle.world_moves.specs.Links.{acceptor_of}
 use Rattle.world_moves.specs.Moving.{begun, with_link}
 use Rattle.world_moves.specs.World.{World}
-use Rattle.world_moves.specs.Plain.{NothingSeals, hear_plain as hear, plain_controller_step as controller_step, plain_member_step as member_step, plain_world}
+use Rattle.world_moves.specs.Plain.{IsPlainPlan, hear_plain as hear, plain_controller_step as controller_step, plain_member_step as member_step, plain_world}
 use Rattle.domain_world.specs.Claims.LetIn.{IsLetInBy, LetsInWhoAsked}
 use Rattle.domain_world.specs.Past.{Delivery, at_member, note_at, note_client, note_controller, note_member, note_messages, note_turns, numbers_on, past, told_by, told_in, Past, controller_asked}
 use Rattle.step_notes.proofs.Members.KeptLogonLaws.{HasFor, IfDialled, IsFor, KeptIn, bytes_keep, each_found, kept_so, one_before}
@@ -359,12 +359,12 @@ first_kept plan on = record {
   let_in = tt;
 }
 
-pub run_holds : (plan : Plan) (moves : List Move) → NothingSeals plan → HoldsOf (past plan moves).world (past plan moves).book
+pub run_holds : (plan : Plan) (moves : List Move) → IsPlainPlan plan → HoldsOf (past plan moves).world (past plan moves).book
 run_holds plan moves nothing =
     let p : Past = past plan moves in
     let kept : IsKept p.world.moves None (ends_in p.world.state) [] p.book = every_ends_after IsKept kept_on plan moves nothing (first_kept plan) in
     record { keeps = kept.keeps; known = kept.known }
 
 -- in every run a member lets in only who asked
-pub lets_in_who_asked : (plan : Plan) (moves : List Move) → NothingSeals plan → LetsInWhoAsked (past plan moves)
+pub lets_in_who_asked : (plan : Plan) (moves : List Move) → IsPlainPlan plan → LetsInWhoAsked (past plan moves)
 lets_in_who_asked plan moves nothing = (run_holds plan moves nothing).known

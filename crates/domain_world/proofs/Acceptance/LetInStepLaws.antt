@@ -19,7 +19,7 @@ use Rattle.step_notes.specs.Records.{MessageTaken}
 use Rattle.world_moves.specs.declared.links.EndId.{EndId}
 use Rattle.world_moves.specs.declared.links.EndId.TheVariants.{Controller, Member, Client}
 use Rattle.world_moves.specs.declared.links.Route.{Route}
-use Rattle.world_moves.specs.declared.links.Route.TheVariants.{Between, ToController, Stranger, ToMember}
+use Rattle.world_moves.specs.declared.links.Route.TheVariants.{Between, ToController, Stranger, ToMember, FromStation}
 use Rattle.world_moves.specs.declared.state.State.{State}
 use Rattle.world_moves.specs.Acting.{Given, given_by}
 use Rattle.world_moves.specs.Ends.{EndStates, EndStep, actions_by}
@@ -209,6 +209,7 @@ last_accepted end route links is at same = (tt, record { route = route; at = got
 dialled_by : (links : List Route) (link at : ℕ) (route : Route) → slice_get links link ≡ Some route → dialler_of route ≡ Some (Member at) → IsDialledBy links at link
 dialled_by links link at (ToMember client member) made side = let x = side in cc
 dialled_by links link at (Between from to) made side = let x = side in cc
+dialled_by links link at (FromStation station controller) made side = let x = side in cc
 dialled_by links link at (Stranger to) made side = let x = side in cc
 dialled_by links link at (ToController member controller) made side =
     let same : member ≡ at = (let x = side in cc) in

@@ -22,7 +22,7 @@ use Rattle.logon_stubs.specs.declared.calls.LogonCall.{LogonCall}
 use Rattle.step_notes.specs.Records.{InUnit, Judging, MessageTaken, OutcomeTold}
 use Rattle.step_notes.specs.ReplySends.{IsReplyOfCall, verdict_passed}
 use Rattle.world_moves.specs.Counting.{is_in}
-use Rattle.domain_world.specs.Accepting.Answered.{AnswersAreHeard, AsksForIt, IsAnsweredIn, IsLetInAsRead, IsProved, outcome_read, verdict_read}
+use Rattle.domain_world.specs.Accepting.Answered.{AnswersAreHeard, AsksForIt, IsAnsweredIn, IsLetInAsRead, AnswersAreJudged, outcome_read, verdict_read}
 use Rattle.domain_world.specs.Claims.Names.{HasNames, IsLetInByName, IsNamedBy, LetsInByName}
 use Rattle.domain_world.specs.Claims.Replies.{IsReplyOfOne}
 use Rattle.domain_world.specs.Past.{Past, plain_form}
@@ -39,7 +39,7 @@ named_by key (Granted granted) logon info is =
     let one : granted ≡ info = (let x = is in cc) in (ap (λ (i : SamInfo). i.domain) one, ap (λ (i : SamInfo). i.effective_name) one)
 named_by key (Status status) logon info is = absurd (let x = is in cc)
 
-module _ (past : Past) (known : IsProved past) (heard : AnswersAreHeard past) (calm : past.book.clash ≡ false) where
+module _ (past : Past) (known : AnswersAreJudged past) (heard : AnswersAreHeard past) (calm : past.book.clash ≡ false) where
   abbrev its_names : OutcomeTold → MessageTaken → Type 0
   its_names told message = IsLetInByName past.book.judged told message
 

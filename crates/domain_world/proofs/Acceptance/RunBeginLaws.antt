@@ -112,7 +112,7 @@ first_apart s seen = record {
 worlds_apart : (plan : Plan) → CallsAreApart (first_requests (first_world plan).state)
 worlds_apart plan = first_apart (first_world plan).state (λ k v at. first_seen sealing_member (λ controller own. refl) plan.members _ k v at)
 
--- calls are apart in the first world where nothing seals
+-- calls are apart in the first world of a plain plan
 pub plain_apart : (plan : Plan) → CallsAreApart (first_requests (plain_world plan).state)
 plain_apart plan = first_apart (plain_world plan).state (λ k v at. first_seen fresh_member (λ controller own. refl) plan.members _ k v at)
 

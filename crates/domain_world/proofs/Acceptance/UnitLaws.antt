@@ -14,7 +14,7 @@ use Rattle.domain_world.specs.Accepting.Units.{HasMarksOf, RunsAreHeard, UnitsAr
 use Rattle.domain_world.specs.Claims.RequestNumbers.{RequestsHaveNumbers}
 use Rattle.domain_world.specs.Past.{Past, past}
 use Rattle.domain_world.proofs.Acceptance.AnsweredLaws.{accepts_all, accepts_only, keys_agree, raises_once}
-use Rattle.domain_world.proofs.Acceptance.AnsweredRunLaws.{is_proved}
+use Rattle.domain_world.proofs.Acceptance.AnsweredRunLaws.{answers_judged}
 use Rattle.domain_world.proofs.Acceptance.CarriedLaws.{carried_heard}
 use Rattle.domain_world.proofs.Messages.KeyLaws.{keys_made}
 use Rattle.domain_world.proofs.Acceptance.NameLaws.{lets_in_by_name}
@@ -54,9 +54,9 @@ pub runs_heard : RunsAreHeard
 runs_heard = record {
   numbers = calls_numbered;
   heard = heard_in;
-  only = λ plan moves nobody heard differ clear. accepts_only (past plan moves) (is_proved plan moves nobody differ) (heard_in plan moves nobody heard differ) clear;
-  all = λ plan moves nobody heard differ clear. accepts_all (past plan moves) (is_proved plan moves nobody differ) (heard_in plan moves nobody heard differ) clear;
-  keys = λ plan moves nobody heard differ clear. keys_agree (past plan moves) (is_proved plan moves nobody differ) (heard_in plan moves nobody heard differ) clear;
-  counts = λ plan moves nobody heard differ clear. raises_once (past plan moves) (is_proved plan moves nobody differ) (heard_in plan moves nobody heard differ) clear;
-  names = λ plan moves nobody heard differ calm. lets_in_by_name (past plan moves) (is_proved plan moves nobody differ) (heard_in plan moves nobody heard differ) calm;
+  only = λ plan moves nobody heard differ clear. accepts_only (past plan moves) (answers_judged plan moves nobody differ) (heard_in plan moves nobody heard differ) clear;
+  all = λ plan moves nobody heard differ clear. accepts_all (past plan moves) (answers_judged plan moves nobody differ) (heard_in plan moves nobody heard differ) clear;
+  keys = λ plan moves nobody heard differ clear. keys_agree (past plan moves) (answers_judged plan moves nobody differ) (heard_in plan moves nobody heard differ) clear;
+  counts = λ plan moves nobody heard differ clear. raises_once (past plan moves) (answers_judged plan moves nobody differ) (heard_in plan moves nobody heard differ) clear;
+  names = λ plan moves nobody heard differ calm. lets_in_by_name (past plan moves) (answers_judged plan moves nobody differ) (heard_in plan moves nobody heard differ) calm;
 }

@@ -13,7 +13,7 @@ use Rattle.wire_base.proofs.ListLaws.{no_some, not_both, some_is}
 use Rattle.step_notes.specs.Records.{ChannelAccepted, InUnit, Outside, Source}
 use Rattle.world_moves.specs.declared.moves.Move.{Move}
 use Rattle.world_moves.specs.declared.plan.Plan.{Plan}
-use Rattle.world_moves.specs.Plain.{NothingSeals}
+use Rattle.world_moves.specs.Plain.{IsPlainPlan}
 use Rattle.domain_world.specs.Claims.AcceptedOpenings.{IsLastOf, KeptAreLast, OpeningsAreMade, accepted_in, is_in_unit}
 use Rattle.domain_world.specs.Claims.OpeningReplies.{AnswersOpening, IsMarkedAsOpened, RepliesAreToOpenings}
 use Rattle.domain_world.specs.Claims.Openings.{IsLastAccepted, is_opened_for, last_accepted, newer_if}
@@ -68,7 +68,7 @@ module _ (controller : ℕ) (computer : List ℕ) where
   last_so (first ∷ older) one channel last same =
       by_first (is_opened_for controller computer first) first one older channel refl last same (λ is. last_so older one channel is same)
 
-pub kept_last : (plan : Plan) (moves : List Move) → NothingSeals plan → KeptAreLast (past plan moves)
+pub kept_last : (plan : Plan) (moves : List Move) → IsPlainPlan plan → KeptAreLast (past plan moves)
 kept_last plan moves nothing controller computer channel keeps =
     let last : IsLastAccepted controller computer channel (past plan moves).book.accepted = (openings_in_order plan moves nothing).last controller computer channel keeps in
     last_so controller computer (past plan moves).book.accepted last.one channel last.last last.same

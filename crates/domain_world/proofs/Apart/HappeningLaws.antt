@@ -15,7 +15,7 @@ use Rattle.secret_change.specs.Secrets.{SecretsState, next_of, reread, untry}
 use Rattle.secret_change.specs.declared.secrets.Next.{Next}
 use Rattle.secret_change.proofs.AgreementLaws.{all_agree}
 use Rattle.world_moves.specs.declared.links.EndId.{EndId}
-use Rattle.world_moves.specs.declared.links.EndId.TheVariants.{Client, Controller, Member}
+use Rattle.world_moves.specs.declared.links.EndId.TheVariants.{Client, Controller, Member, Station}
 use Rattle.world_moves.specs.declared.moves.Move.{Move}
 use Rattle.world_moves.specs.declared.plan.Plan.{Plan}
 use Rattle.world_moves.specs.Ends.{EndStates}
@@ -67,10 +67,12 @@ run_same (what ∷ moves) w =
     ends_stay.both w.state (happens w what).state (run moves (happens w what)).state (ends_stay.acts w.state what) (run_same moves (happens w what))
 
 -- an end's number, by the test of where it stands
-other_end : (first second : Bool) (member client : ℕ) (k : ℕ) → (if first then Some (Member member) else if second then Some (Client client) else None) ≡ Some (Controller k) → ⊥
-other_end true second member client k is = let never = is in cc
-other_end false true member client k is = let never = is in cc
-other_end false false member client k is = let never = is in cc
+other_end : (first second third : Bool) (member client station : ℕ) (k : ℕ) →
+    (if first then Some (Member member) else if second then Some (Client client) else if third then Some (Station station) else None) ≡ Some (Controller k) → ⊥
+other_end true second third member client station k is = let never = is in cc
+other_end false true third member client station k is = let never = is in cc
+other_end false false true member client station k is = let never = is in cc
+other_end false false false member client station k is = let never = is in cc
 
 test_below : (hit : Bool) (number count : ℕ) (others : Option EndId) (k : ℕ) → nat_lt number count ≡ hit → (others ≡ Some (Controller k) → ⊥) →
     (if hit then Some (Controller number) else others) ≡ Some (Controller k) → k < count
@@ -83,9 +85,11 @@ peer_below [] ends k is = absurd (let never = is in cc)
 peer_below (number ∷ []) ends k is =
     let c : ℕ = length ends.controllers in
     let m : ℕ = length ends.members in
+    let l : ℕ = length ends.clients in
     test_below (nat_lt number c) number c
-    (if nat_lt number (c + m) then Some (Member (number - c)) else if nat_lt number (c + m + length ends.clients) then Some (Client (number - (c + m))) else None) k refl
-    (λ reached. other_end (nat_lt number (c + m)) (nat_lt number (c + m + length ends.clients)) (number - c) (number - (c + m)) k reached) is
+    (if nat_lt number (c + m) then Some (Member (number - c)) else if nat_lt number (c + m + l) then Some (Client (number - (c + m)))
+    else if nat_lt number (c + m + l + length ends.stations) then Some (Station (number - (c + m + l))) else None) k refl
+    (λ reached. other_end (nat_lt number (c + m)) (nat_lt number (c + m + l)) (nat_lt number (c + m + l + length ends.stations)) (number - c) (number - (c + m)) (number - (c + m + l)) k reached) is
 peer_below (number ∷ other ∷ more) ends k is = absurd (let never = is in cc)
 
 get_there : {T : Type 0} (items : List T) (k : ℕ) → k < length items → (item : T) × (slice_get items k ≡ Some item)

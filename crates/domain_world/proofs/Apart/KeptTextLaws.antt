@@ -23,7 +23,7 @@ use Rattle.member_server.proofs.KeepingLaws.{keeps_what_is_held}
 use Rattle.member_server.proofs.TextLaws.{keeps_texts}
 use Rattle.logon_client.specs.Machine.{begin_of, fresh_client}
 use Rattle.world_moves.specs.declared.links.EndId.{EndId}
-use Rattle.world_moves.specs.declared.links.EndId.TheVariants.{Client, Controller, Member}
+use Rattle.world_moves.specs.declared.links.EndId.TheVariants.{Client, Controller, Member, Station}
 use Rattle.world_moves.specs.declared.plan.Plan.{Plan}
 use Rattle.world_moves.specs.declared.state.State.{State}
 use Rattle.world_moves.specs.Acting.{Given, forget, given_by, keep_by, plans_after, put_secrets}
@@ -334,6 +334,7 @@ pub acts_so : (m : ℕ) (end : EndId) (what : Action) (rest : Given) (plans : Li
 acts_so m (Controller at) (action.Keep text) rest plans members keeps = one_done m (Controller at, action.Keep text) rest plans members (λ one. refl) keeps
 acts_so m (Member at) (action.Keep text) rest plans members keeps = member_done m at text rest plans members keeps
 acts_so m (Client at) (action.Keep text) rest plans members keeps = one_done m (Client at, action.Keep text) rest plans members (λ one. refl) keeps
+acts_so m (Station at) (action.Keep text) rest plans members keeps = one_done m (Station at, action.Keep text) rest plans members (λ one. refl) keeps
 acts_so m end (action.Send link bytes) rest plans members keeps =
     one_done m (end, action.Send link bytes) rest plans members (λ one. same_text (same_end end (Member m)) (action.Send link bytes) one tt) keeps
 acts_so m end (action.Dial peer) rest plans members keeps =
@@ -442,6 +443,7 @@ still_there : (m : ℕ) (end : EndId) (what : Action) (plans : List MemberPlan) 
 still_there m (Controller at) (action.Keep text) plans has = has
 still_there m (Member at) (action.Keep text) plans has = put_there (secrets_of text) (slice_get plans at) at m plans has.0 refl has.1
 still_there m (Client at) (action.Keep text) plans has = has
+still_there m (Station at) (action.Keep text) plans has = has
 still_there m end (action.Send link bytes) plans has = has
 still_there m end (action.Dial peer) plans has = has
 still_there m end (action.Close link cause) plans has = has

@@ -149,6 +149,7 @@ plain_same plan = record {
   controllers = same_many plan.hands_on false plan.seals plan.tables plan.controllers;
   members = length-map plan.members fresh_member ∙ sym (length-map plan.members sealing_member);
   clients = refl;
+  stations = refl;
 }
 
 ends_on : (one other third : EndStates) → SameEnds one other → SameEnds other third → SameEnds one third
@@ -156,6 +157,7 @@ ends_on one other third first second = record {
   controllers = first.controllers ∙ second.controllers;
   members = first.members ∙ second.members;
   clients = first.clients ∙ second.clients;
+  stations = first.stations ∙ second.stations;
 }
 
 put_named : (plans : List MemberPlan) (members : List MemberState) (at : ℕ) (new : MemberState) → ((own : MemberPlan) → slice_get plans at ≡ Some own → IsNamed own.computer new.running) →
@@ -212,7 +214,7 @@ module _ (plan : Plan) where
     begins = λ n client own s given b is none stands. record {
       holds = record {
         plans = stands.plans;
-        ends = record { controllers = stands.ends.controllers; members = stands.ends.members; clients = stands.ends.clients ∙ sym (length-set s.ends.clients client (begin_of (fresh_client own)).state) };
+        ends = record { controllers = stands.ends.controllers; members = stands.ends.members; clients = stands.ends.clients ∙ sym (length-set s.ends.clients client (begin_of (fresh_client own)).state); stations = stands.ends.stations };
         named = stands.named;
       };
       fine = all_any (begun client own s).actions;

@@ -29,7 +29,7 @@ use Rattle.world_moves.specs.Moving.{changed}
 use Rattle.world_moves.proofs.ChangeLaws.{by_change}
 use Rattle.world_moves.proofs.EndKindLaws.{IfMember}
 use Rattle.domain_world.specs.Accepting.Carried.{IsWholeUnit}
-use Rattle.domain_world.specs.Accepting.Runs.{IsQuiet, IsQuietTurn}
+use Rattle.domain_world.specs.Accepting.Runs.{NothingIsOpen, IsQuietTurn}
 use Rattle.domain_world.specs.Accepting.SeenSteps.{Differ, requests_after}
 use Rattle.domain_world.specs.Claims.OrderedSteps.{SuitsIfTaken}
 use Rattle.domain_world.specs.Past.{Delivery, controller_asked, marks_of, note_client, note_given, note_member, note_messages, other_marks, sent_at}
@@ -76,14 +76,14 @@ AllSuit base More =
 
 -- what it rests on
 abbrev pub OrderSide : RunFact → RunFact
-OrderSide More n s given b = IsQuiet s × KeptIn n s b × More n s given b
+OrderSide More n s given b = NothingIsOpen s × KeptIn n s b × More n s given b
 
 module _ (base : Asker) where
   -- ---- an end takes a step
 
   pub none_order : (n : ℕ) (s : State) (given : Given) (b : Book) → OrderKept base n s given b → OrderKept base (n + 1) s given b
   none_order n s given b order few differ told =
-      order_other n (n + 1) s.member_plans s.ends s.ends s.chances.drawn s.chances.drawn b.sent (asked base b.accepted) refl (record { controllers = refl; members = refl; clients = refl })
+      order_other n (n + 1) s.member_plans s.ends s.ends s.chances.drawn s.chances.drawn b.sent (asked base b.accepted) refl (record { controllers = refl; members = refl; clients = refl; stations = refl })
       (order (omega (arith, few)) differ told)
 
   controller_hears : (n : ℕ) (c : ControllerState) (at : ℕ) (what : Event) (s : State) (given : Given) (b : Book) → OrderKept base n s given b →

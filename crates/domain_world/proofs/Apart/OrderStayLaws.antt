@@ -101,14 +101,14 @@ pub order_controllers : (n later : ℕ) (plans : List MemberPlan) (ends : EndSta
     InOrder (requests_at n plans ends drawn sent) a → InOrder (requests_at later plans (record ends { controllers = slice_set ends.controllers at new }) more sent) a
 order_controllers n later plans ends at new drawn more sent a order =
     order_other n later plans ends (record ends { controllers = slice_set ends.controllers at new }) drawn more sent a refl
-    (record { controllers = length-set ends.controllers at new; members = refl; clients = refl }) order
+    (record { controllers = length-set ends.controllers at new; members = refl; clients = refl; stations = refl }) order
 
 -- a client changes
 pub order_clients : (n later : ℕ) (plans : List MemberPlan) (ends : EndStates) (at : ℕ) (new : ClientState) (drawn more : List (List ℕ)) (sent : List Sent) (a : Asker) →
     InOrder (requests_at n plans ends drawn sent) a → InOrder (requests_at later plans (record ends { clients = slice_set ends.clients at new }) more sent) a
 order_clients n later plans ends at new drawn more sent a order =
     order_other n later plans ends (record ends { clients = slice_set ends.clients at new }) drawn more sent a refl
-    (record { controllers = refl; members = refl; clients = length-set ends.clients at new }) order
+    (record { controllers = refl; members = refl; clients = length-set ends.clients at new; stations = refl }) order
 
 -- ---- a member changes
 

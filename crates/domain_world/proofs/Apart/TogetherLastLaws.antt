@@ -170,6 +170,7 @@ module _ (plan : Plan) (moves : List Move) (nobody : IsPlainAlone plan) (schedul
         controllers = sym names.ends.controllers ∙ (plain_same plan).controllers ∙ sym same.controllers;
         members = sym names.ends.members ∙ (plain_same plan).members ∙ sym same.members;
         clients = sym names.ends.clients ∙ sym same.clients;
+        stations = sym names.ends.stations ∙ sym same.stations;
       }
 
   pub grows_last : (s : State) (b : Book) → Leads s b → GrowsTo s p.world.state b last

@@ -27,7 +27,7 @@ use Rattle.world_moves.specs.Ends.{EndStates, EndStep, actions_by, client_step}
 use Rattle.world_moves.specs.Links.{acceptor_of}
 use Rattle.world_moves.specs.Moving.{settle, with_link}
 use Rattle.domain_world.specs.Accepting.Carried.{IsWholeUnit}
-use Rattle.domain_world.specs.Accepting.Runs.{IsQuiet, IsQuietTurn}
+use Rattle.domain_world.specs.Accepting.Runs.{NothingIsOpen, IsQuietTurn}
 use Rattle.domain_world.specs.Accepting.SeenSteps.{Differ}
 use Rattle.domain_world.specs.Past.{Delivery, note_client, note_given, note_member, other_marks, sent_at}
 use Rattle.domain_world.proofs.Frames.AloneNoteLaws.{note_alone as note_at, note_controller_alone as note_controller}
@@ -97,7 +97,7 @@ module _ (p : Pairing) (Knows : List BagUnit → Book → Type 0) (More : MoveFa
   TogetherKept n q s given b = n ≤ most_steps → Differ s.chances.drawn → Knows (bag_at q.to s) b → TogetherSo p q.rest s.member_plans s.ends.members b
 
   abbrev pub TogetherSide : MoveFact
-  TogetherSide n q s given b = UnitsFact n q s given b × IsQuiet s × HasHelp p n q.rest s given b × More n q s given b
+  TogetherSide n q s given b = UnitsFact n q s given b × NothingIsOpen s × HasHelp p n q.rest s given b × More n q s given b
 
   module _ (known : IsKnown Knows) (fits : AllFit) where
     -- nothing is written down
@@ -146,7 +146,7 @@ module _ (p : Pairing) (Knows : List BagUnit → Book → Type 0) (More : MoveFa
     after_of end step s = stepped end step s
 
     own_steps : (n : ℕ) (m : MemberState) (w : Delivery) (piece : List ℕ) (s after : State) (given : Given) (b : Book) → slice_get s.ends.members p.who ≡ Some m →
-        IsAtSide s.links w.link w.back (Member p.who) → CameFrom w.source s w piece → length b.sent ≡ length s.bag → IsQuiet s → HasHelp p n [] s given b → More n (coming w) s given b →
+        IsAtSide s.links w.link w.back (Member p.who) → CameFrom w.source s w piece → length b.sent ≡ length s.bag → NothingIsOpen s → HasHelp p n [] s given b → More n (coming w) s given b →
         n + 1 ≤ most_steps → Differ (s.chances.drawn ++ (step_of m (event.Bytes w.link piece) s.moment s.chances.left).drawn) → Differ s.chances.drawn →
         IsBehindMember p.who m w piece s after → Knows after.bag (note_member (Some m) p.who w piece s after b) → TiesHold p [] s.member_plans b m.running →
         TiesHold p (given_by (Member p.who) (actions_by (step_of m (event.Bytes w.link piece) s.moment s.chances.left).answer) ++ []) s.member_plans
@@ -177,7 +177,7 @@ module _ (p : Pairing) (Knows : List BagUnit → Book → Type 0) (More : MoveFa
         ]
 
     own_comes : (n at : ℕ) → at ≡ p.who → (m : MemberState) (w : Delivery) (piece : List ℕ) (s after : State) (given : Given) (b : Book) → slice_get s.ends.members at ≡ Some m →
-        IsAtSide s.links w.link w.back (Member at) → CameFrom w.source s w piece → length b.sent ≡ length s.bag → StillHas s.bag after.bag → IsQuiet s → HasHelp p n [] s given b →
+        IsAtSide s.links w.link w.back (Member at) → CameFrom w.source s w piece → length b.sent ≡ length s.bag → StillHas s.bag after.bag → NothingIsOpen s → HasHelp p n [] s given b →
         More n (coming w) s given b → n + 1 ≤ most_steps → Differ (s.chances.drawn ++ (step_of m (event.Bytes w.link piece) s.moment s.chances.left).drawn) → Differ s.chances.drawn →
         TogetherSo p [] s.member_plans s.ends.members b → IsBehindMember at m w piece s after → Knows after.bag (note_member (Some m) at w piece s after b) →
         TogetherSo p (given_by (Member at) (actions_by (step_of m (event.Bytes w.link piece) s.moment s.chances.left).answer) ++ []) s.member_plans
@@ -193,7 +193,7 @@ module _ (p : Pairing) (Knows : List BagUnit → Book → Type 0) (More : MoveFa
         is here behind knows
 
     member_comes : (n at : ℕ) (m : MemberState) (w : Delivery) (piece : List ℕ) (s after : State) (given : Given) (b : Book) → slice_get s.ends.members at ≡ Some m → IsAtSide s.links w.link w.back (Member at) →
-        CameFrom w.source s w piece → length b.sent ≡ length s.bag → StillHas s.bag after.bag → IsQuiet s → HasHelp p n [] s given b → More n (coming w) s given b → TogetherKept n (coming w) s given b →
+        CameFrom w.source s w piece → length b.sent ≡ length s.bag → StillHas s.bag after.bag → NothingIsOpen s → HasHelp p n [] s given b → More n (coming w) s given b → TogetherKept n (coming w) s given b →
         IsBehindMember at m w piece s after → ComesSo n s (Member at) (member_step (Some m) at (event.Bytes w.link piece) s.moment s.ends s.chances) after (note_member (Some m) at w piece s after b)
     member_comes n at m w piece s after given b is here came even still quiet help more together behind few differ knows =
         let before : Differ s.chances.drawn = differ_front s.chances.drawn (step_of m (event.Bytes w.link piece) s.moment s.chances.left).drawn differ in
@@ -210,7 +210,7 @@ module _ (p : Pairing) (Knows : List BagUnit → Book → Type 0) (More : MoveFa
         ]
 
     comes_kept : (n : ℕ) (end : EndId) (w : Delivery) (piece : List ℕ) (s : State) (given : Given) (b : Book) → IsAtSide s.links w.link w.back end → CameFrom w.source s w piece →
-        (IsServer end → length b.sent ≡ length s.bag) → IsQuiet s → HasHelp p n [] s given b → More n (coming w) s given b → TogetherKept n (coming w) s given b →
+        (IsServer end → length b.sent ≡ length s.bag) → NothingIsOpen s → HasHelp p n [] s given b → More n (coming w) s given b → TogetherKept n (coming w) s given b →
         let after : State = (hear_and_act end (event.Bytes w.link piece) s).state in
         ComesSo n s end (end_step end (event.Bytes w.link piece) s.moment s.ends s.chances) after (note_at (Some end) w piece s after b)
     comes_kept n end w piece s given b here came even quiet help more together =

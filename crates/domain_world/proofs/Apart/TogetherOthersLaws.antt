@@ -28,7 +28,7 @@ use Rattle.world_moves.specs.declared.plan.Plan.{Plan}
 use Rattle.world_moves.specs.declared.state.State.{State}
 use Rattle.world_moves.specs.Acting.{Given}
 use Rattle.domain_world.specs.Accepting.Carried.{IsWholeUnit}
-use Rattle.domain_world.specs.Accepting.Runs.{IsQuiet, IsQuietTurn}
+use Rattle.domain_world.specs.Accepting.Runs.{NothingIsOpen, IsQuietTurn}
 use Rattle.domain_world.specs.Accepting.SeenSteps.{Differ, IfPlaced, Placed, PlacedBy}
 use Rattle.domain_world.specs.Claims.NeverApart.{BeginsAlike}
 use Rattle.domain_world.specs.Past.{Delivery, controller_asked, note_member}
@@ -129,7 +129,7 @@ module _ (plan : Plan) (member : ℕ) (begins : BeginsAlike plan member) (place 
       CallsElsewhere (basis_of p unseen b) (marks_in (note_member (Some m) at w piece s after b).sent) (marks_in b.sent)
   others_fit n at m w piece s after given b apart is here came even help known few differ =
       let holds : CallsHold n s.member_plans s.ends s.chances.drawn s.links b.sent b.messages = help.calls (omega (arith, few)) differ in
-      let quiet : IsQuiet s = is_quiet s known.0.0.0.1.0.0.0.0 in
+      let quiet : NothingIsOpen s = is_quiet s known.0.0.0.1.0.0.0.0 in
       elim (turn_case m.running w.link) [
         | inl other ↦ all_were (basis_of p unseen b) (marks_in (note_member (Some m) at w piece s after b).sent) (marks_in b.sent) (elsewhere_marks p at m w piece s after b other)
         | inr on ↦

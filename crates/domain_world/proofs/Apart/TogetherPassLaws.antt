@@ -18,7 +18,7 @@ use Rattle.domain_world.proofs.Acceptance.ScheduleLaws.{units_heard}
 use Rattle.domain_world.proofs.Acceptance.Turns.TurnNotedLaws.{or_false}
 use Rattle.domain_world.proofs.Acceptance.UnitLaws.{heard_in}
 use Rattle.domain_world.proofs.Apart.OrderToldLaws.{IsEarlier}
-use Rattle.domain_world.proofs.Acceptance.AnsweredRunLaws.{is_proved}
+use Rattle.domain_world.proofs.Acceptance.AnsweredRunLaws.{answers_judged}
 use Rattle.domain_world.proofs.Apart.TogetherBookLaws.{AllJudgedSo, IsTakenSo, Pairing, is_taken, passed_units, units_if}
 use Rattle.domain_world.proofs.Moves.DrawnRunLaws.{draws_differ}
 use Rattle.world_moves.specs.Alone.{IsPlainAlone}
@@ -116,4 +116,4 @@ module _ (p : Pairing) (r : Requests ℕ) (held : SecretsState) (out : Option �
 pub schedules_pass_once : (plan : Plan) (moves : List Move) → IsPlainAlone plan → IsSchedule plan moves → IsClear (past plan moves).book → PassOnce (past plan moves).book.judged
 schedules_pass_once plan moves nobody schedule clear =
     once_by_places (past plan moves).book.judged
-    (no_twice (past plan moves) (is_proved plan moves nobody (draws_differ plan moves)) (heard_in plan moves nobody (units_heard plan moves nobody schedule) (draws_differ plan moves)) clear)
+    (no_twice (past plan moves) (answers_judged plan moves nobody (draws_differ plan moves)) (heard_in plan moves nobody (units_heard plan moves nobody schedule) (draws_differ plan moves)) clear)

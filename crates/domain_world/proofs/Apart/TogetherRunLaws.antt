@@ -212,6 +212,7 @@ module _ (plan : Plan) (member : ℕ) (begins : BeginsAlike plan member) (place 
           controllers = sym names.ends.controllers ∙ (plain_same plan).controllers;
           members = sym names.ends.members ∙ (plain_same plan).members;
           clients = sym names.ends.clients;
+          stations = sym names.ends.stations;
         })
             ∙ plan_asks (slice_get s.member_plans member) (first_ends plan) (own_alike s names) begins.reaches;
         named = λ few differ running there.

@@ -90,7 +90,7 @@ use Rattle.world_moves.specs.Plain.{plain_member_step as member_step}
 use Rattle.std.proofs.lemmas.List.Elements.{recursion_from_All}
 use Rattle.wire_base.proofs.ListLaws.{got_append}
 use Rattle.domain_world.specs.Accepting.Carried.{IsTakenInTurn}
-use Rattle.domain_world.specs.Accepting.Runs.{IsQuiet}
+use Rattle.domain_world.specs.Accepting.Runs.{NothingIsOpen}
 use Rattle.domain_world.specs.Accepting.SeenSteps.{Differ}
 use Rattle.domain_world.specs.Claims.{IsClear}
 use Rattle.domain_world.specs.Claims.NeverApart.{BeginsAlike}
@@ -338,6 +338,7 @@ module _ (plan : Plan) (moves : List Move) (nobody : IsPlainAlone plan) (schedul
         controllers = leads_was.ends.controllers;
         members = length-set s.ends.members member _ ∙ leads_was.ends.members;
         clients = leads_was.ends.clients;
+        stations = leads_was.ends.stations;
       };
     }
 
@@ -374,7 +375,7 @@ module _ (plan : Plan) (moves : List Move) (nobody : IsPlainAlone plan) (schedul
 
       same_bytes : piece_of.unit.bytes ≡ piece
       same_bytes =
-          let quiet : IsQuiet s = is_quiet s (beside_has plan member begins place (asks_in bag last fits) n (coming w) s given b known).0.0.0.1.0.0.0.0 in
+          let quiet : NothingIsOpen s = is_quiet s (beside_has plan member begins place (asks_in bag last fits) n (coming w) s given b known).0.0.0.1.0.0.0.0 in
           let route : piece_of.route ≡ ToController member dialled.controller = some_is piece_of.route (ToController member dialled.controller) (sym piece_of.made ∙ dialled.at) in
           let is = quiet.bag in_unit.number piece_of.unit piece_of.there (sym piece_of.same_kind ∙ ap kind_of route) in
           one_piece piece_of.unit.bytes piece is.1 piece_of.part

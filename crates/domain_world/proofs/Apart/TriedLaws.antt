@@ -12,7 +12,7 @@ use Rattle.member_server.proofs.TryingLaws.{begun_so, tries_its_secrets}
 use Rattle.step_notes.specs.Records.{Book}
 use Rattle.world_moves.specs.declared.moves.Move.{Move}
 use Rattle.world_moves.specs.declared.plan.Plan.{Plan}
-use Rattle.world_moves.specs.Plain.{NothingSeals}
+use Rattle.world_moves.specs.Plain.{IsPlainPlan}
 use Rattle.domain_world.specs.Claims.NeverApart.{MembersTryTheirSecrets}
 use Rattle.domain_world.specs.Past.{past}
 use Rattle.domain_world.proofs.Frames.MemberFrameLaws.{KeepsMembers, MembersFact, members_after}
@@ -67,5 +67,5 @@ try_on = record {
   anew = λ nothing plan at members chances links all. set_tries members at (fresh_member plan) (tries_its_secrets.fresh plan) all;
 }
 
-pub members_try : (plan : Plan) (moves : List Move) → NothingSeals plan → MembersTryTheirSecrets (past plan moves)
+pub members_try : (plan : Plan) (moves : List Move) → IsPlainPlan plan → MembersTryTheirSecrets (past plan moves)
 members_try plan moves nothing = members_after no_part Try try_on plan moves nothing (fresh_try plan.members)

@@ -46,7 +46,7 @@ use Rattle.step_notes.specs.Records.{Book}
 use Rattle.world_moves.specs.declared.moves.Move.{Move}
 use Rattle.world_moves.specs.declared.plan.Plan.{Plan}
 use Rattle.world_moves.specs.Ends.{fresh_controller}
-use Rattle.world_moves.specs.Plain.{NothingSeals}
+use Rattle.world_moves.specs.Plain.{IsPlainPlan}
 use Rattle.world_moves.proofs.ChangeLaws.{member_begun}
 use Rattle.domain_world.specs.Claims.ChannelKinds.{AskersNameTheirKind}
 use Rattle.domain_world.specs.Past.{past}
@@ -259,7 +259,7 @@ members_ask = record {
 
 -- ---- in every run
 
-pub askers_name : (plan : Plan) (moves : List Move) → NothingSeals plan → AskersNameTheirKind (past plan moves)
+pub askers_name : (plan : Plan) (moves : List Move) → IsPlainPlan plan → AskersNameTheirKind (past plan moves)
 askers_name plan moves nothing =
     let members = members_after no_part MembersAsk members_ask plan moves nothing
     (λ at m is. let made = got_map fresh_member plan.members at m is in subst (λ (one : MemberState). NamesIf one.running) made.2 refl) in

@@ -47,7 +47,7 @@ use Rattle.world_moves.specs.Alone.{IsPlainAlone, alone_controller_step as contr
 use Rattle.world_moves.proofs.EndKindLaws.{IfMember}
 use Rattle.domain_world.specs.Accepting.SeenSteps.{NoRequests}
 use Rattle.domain_world.specs.Accepting.Carried.{IsWholeUnit}
-use Rattle.domain_world.specs.Accepting.Runs.{AskedIsOut, BagIsWhole, IsOut, IsQuiet, IsQuietTurn, RunsStandSo, Shows}
+use Rattle.domain_world.specs.Accepting.Runs.{AskedIsOut, BagIsWhole, IsOut, NothingIsOpen, IsQuietTurn, RunsStandSo, Shows}
 use Rattle.domain_world.specs.Past.{Delivery, Past, beside_mark, controller_asked, forward_mark, is_sent_on, mark_or, note_given, note_member, other_marks, past, sent_at, still_waits}
 use Rattle.domain_world.specs.Schedules.{OfSchedules}
 use Rattle.domain_world.proofs.Frames.AloneNoteLaws.{note_alone as note_at}
@@ -118,7 +118,7 @@ dialled_on Fits Own r link on kept =
 
 -- the bag is whole, and nothing is open on the link of a turn: of the quiet parts `bag` and `members` are used
 abbrev pub QuietSide : RunFact
-QuietSide n s given b = IsQuiet s
+QuietSide n s given b = NothingIsOpen s
 
 -- what is known of calls, where few steps were taken and the draws so far differ
 abbrev pub CallsKept : RunFact
@@ -169,7 +169,7 @@ hears_so n end what s b meets kept =
 abbrev member_after : MemberState → ℕ → Delivery → List ℕ → State → State
 member_after m at w piece s = stepped (Member at) (member_step (Some m) at (event.Bytes w.link piece) s.moment s.ends s.chances) s
 
-member_comes : (n : ℕ) (m : MemberState) (at : ℕ) (w : Delivery) (piece : List ℕ) (s : State) (b : Book) → slice_get s.ends.members at ≡ Some m → IsQuiet s →
+member_comes : (n : ℕ) (m : MemberState) (at : ℕ) (w : Delivery) (piece : List ℕ) (s : State) (b : Book) → slice_get s.ends.members at ≡ Some m → NothingIsOpen s →
     CameFrom w.source s w piece → length b.sent ≡ length s.bag → KeptIn n s b →
     KeptAfter (n + 1) s (member_step (Some m) at (event.Bytes w.link piece) s.moment s.ends s.chances) (note_member (Some m) at w piece s (member_after m at w piece s) b)
 member_comes n m at w piece s b is quiet came even kept = λ few differ.
@@ -191,7 +191,7 @@ member_comes n m at w piece s b is quiet came even kept = λ few differ.
           few differ
     ]
 
-comes_so : (n : ℕ) (end : EndId) (w : Delivery) (piece : List ℕ) (s : State) (b : Book) → CameFrom w.source s w piece → (IsServer end → length b.sent ≡ length s.bag) → IsQuiet s → KeptIn n s b →
+comes_so : (n : ℕ) (end : EndId) (w : Delivery) (piece : List ℕ) (s : State) (b : Book) → CameFrom w.source s w piece → (IsServer end → length b.sent ≡ length s.bag) → NothingIsOpen s → KeptIn n s b →
     KeptIn (n + 1) (hear end (event.Bytes w.link piece) s).state (note_at (Some end) w piece s (hear_and_act end (event.Bytes w.link piece) s).state b)
 comes_so n end w piece s b came even quiet kept =
     acted_by (λ (one : EndId) (step : EndStep) (after : State) (now : Book). (IsServer one → length b.sent ≡ length s.bag) → KeptAfter (n + 1) s step now) w piece s b
@@ -323,7 +323,7 @@ calls_stand plan moves steps kept few schedule differ =
 -- ---- with what keeps the ends quiet
 
 -- a schedule whose draws differ stands as it is to, where any fact is kept by which its ends are quiet
-pub stand_so : (Quiet : RunFact) (Fine : ActionFact) → ((n : ℕ) (s : State) (given : Given) (b : Book) → Quiet n s given b → IsQuiet s) → StepKeeps NoFact Quiet Fine →
+pub stand_so : (Quiet : RunFact) (Fine : ActionFact) → ((n : ℕ) (s : State) (given : Given) (b : Book) → Quiet n s given b → NothingIsOpen s) → StepKeeps NoFact Quiet Fine →
     (plan : Plan) (moves : List Move) → IsPlainAlone plan → Quiet 0 (plain_world plan).state [] blank → HasBytes plan moves → IsSchedule plan moves →
     DrawsDiffer (past plan moves).world → RunsStandSo plan moves
 stand_so Quiet Fine so keeps plan moves nobody first bytes schedule differ =

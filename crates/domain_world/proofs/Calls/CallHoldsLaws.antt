@@ -36,13 +36,15 @@ pub record SameNumbers (ends later : EndStates) : Type 0 where
   pub controllers : length later.controllers ≡ length ends.controllers
   pub members : length later.members ≡ length ends.members
   pub clients : length later.clients ≡ length ends.clients
+  pub stations : length later.stations ≡ length ends.stations
 
 peer_same : (peer : List ℕ) (ends later : EndStates) → SameNumbers ends later → end_of_peer peer later ≡ end_of_peer peer ends
 peer_same [] ends later same = refl
 peer_same (number ∷ []) ends later same =
-    ap (λ (n : ℕ). end_in number n (length later.members) (length later.clients)) same.controllers
-    ∙ ap (λ (n : ℕ). end_in number (length ends.controllers) n (length later.clients)) same.members
-    ∙ ap (λ (n : ℕ). end_in number (length ends.controllers) (length ends.members) n) same.clients
+    ap (λ (n : ℕ). end_in number n (length later.members) (length later.clients) (length later.stations)) same.controllers
+    ∙ ap (λ (n : ℕ). end_in number (length ends.controllers) n (length later.clients) (length later.stations)) same.members
+    ∙ ap (λ (n : ℕ). end_in number (length ends.controllers) (length ends.members) n (length later.stations)) same.clients
+    ∙ ap (λ (n : ℕ). end_in number (length ends.controllers) (length ends.members) (length ends.clients) n) same.stations
 peer_same (number ∷ other ∷ more) ends later same = refl
 
 pub controller_same : (plan : Option MemberPlan) (ends later : EndStates) → SameNumbers ends later → controller_of_plan plan later ≡ controller_of_plan plan ends
@@ -232,7 +234,7 @@ module _ (plans : List MemberPlan) (ends : EndStates) (at : ℕ) (new : MemberSt
   ]
 
   same_size : SameNumbers ends with_new
-  same_size = record { controllers = refl; members = length-set ends.members at new; clients = refl }
+  same_size = record { controllers = refl; members = length-set ends.members at new; clients = refl; stations = refl }
 
   pub seen_after : (j : ℕ) (v : View) → views_at plans with_new j ≡ Some v →
       seen_or (j == at) (seen_running (controller_of_plan (slice_get plans at) ends) new.running) (views_at plans ends j) ≡ Some v

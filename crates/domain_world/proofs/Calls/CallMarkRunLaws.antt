@@ -1,4 +1,4 @@
--- In every run in which nothing seals the unit of a message's call is marked as a call on a channel with the controller
+-- In every run of a plain plan the unit of a message's call is marked as a call on a channel with the controller
 -- of that member's plan. It rests on what members keep, and on which unit gets which mark, so it doesn't matter what
 -- controllers do. It serves `Proved.call_marks`.
 use Rattle.std.proofs.Common.{◌≡◌, ℕ, false, List, [], ◌∷◌, ◌++◌, drop, length, map, Option, Some, None, refl, sym, ap, subst, ◌∙◌, slice_get}
@@ -29,7 +29,7 @@ use Rattle.world_moves.specs.Ends.{EndStates, EndStep}
 use Rattle.world_moves.specs.Links.{acceptor_of}
 use Rattle.world_moves.specs.MemberPlans.{AreAlikeButSecrets}
 use Rattle.world_moves.specs.Moving.{begun, changed, with_link}
-use Rattle.world_moves.specs.Plain.{NothingSeals, hear_plain as hear, plain_member_step as member_step, plain_world, renewed_plain as renewed}
+use Rattle.world_moves.specs.Plain.{IsPlainPlan, hear_plain as hear, plain_member_step as member_step, plain_world, renewed_plain as renewed}
 use Rattle.world_moves.proofs.KeptLaws.{plans_alike}
 use Rattle.world_moves.proofs.PlainKindLaws.{plain_by, renew_plain_by}
 use Rattle.domain_world.specs.Claims.MarkedUnits.{CallsAreMarked, IsMarkedAsCall}
@@ -81,21 +81,21 @@ SideFact = Both (OfMoves IsKept) EvenFact
 
 ends_on : (first middle last : EndStates) → SameEnds first middle → SameEnds middle last → SameEnds first last
 ends_on first middle last one other =
-    record { controllers = one.controllers ∙ other.controllers; members = one.members ∙ other.members; clients = one.clients ∙ other.clients }
+    record { controllers = one.controllers ∙ other.controllers; members = one.members ∙ other.members; clients = one.clients ∙ other.clients; stations = one.stations ∙ other.stations }
 
 hear_same : (end : EndId) (what : Event) (s : State) → SameEnds s.ends (hear end what s).state.ends
 hear_same end what s =
     plain_by (λ (one : EndId) (step : EndStep). SameEnds s.ends step.ends) what s.moment s.ends s.chances (λ one. same_ends s.ends)
-    (λ at c is. record { controllers = sym (length-set s.ends.controllers at _); members = refl; clients = refl })
-    (λ at m is. record { controllers = refl; members = sym (length-set s.ends.members at _); clients = refl })
-    (λ at c is. record { controllers = refl; members = refl; clients = sym (length-set s.ends.clients at _) }) end
+    (λ at c is. record { controllers = sym (length-set s.ends.controllers at _); members = refl; clients = refl; stations = refl })
+    (λ at m is. record { controllers = refl; members = sym (length-set s.ends.members at _); clients = refl; stations = refl })
+    (λ at c is. record { controllers = refl; members = refl; clients = sym (length-set s.ends.clients at _); stations = refl }) end
 
 renew_same : (end : EndId) (s : State) → SameEnds s.ends (renewed end s).ends
 renew_same end s =
     renew_plain_by (λ (one : EndId) (ends : EndStates). SameEnds s.ends ends) s (λ one. same_ends s.ends)
-    (λ at c is. record { controllers = sym (length-set s.ends.controllers at _); members = refl; clients = refl })
-    (λ at plan is. record { controllers = refl; members = sym (length-set s.ends.members at _); clients = refl })
-    (λ at plan is. record { controllers = refl; members = refl; clients = sym (length-set s.ends.clients at _) }) end
+    (λ at c is. record { controllers = sym (length-set s.ends.controllers at _); members = refl; clients = refl; stations = refl })
+    (λ at plan is. record { controllers = refl; members = sym (length-set s.ends.members at _); clients = refl; stations = refl })
+    (λ at plan is. record { controllers = refl; members = refl; clients = sym (length-set s.ends.clients at _); stations = refl }) end
 
 -- ---- what is to hold of calls stays
 
@@ -228,7 +228,7 @@ module _ (plan : Plan) where
     fails = λ n at end s b side holds. (holds.0, heard_so end event.DialFailed s holds.1, holds.2);
     begins = λ n at client own s b is side holds. (
       holds.0,
-      ends_on (plain_world plan).state.ends s.ends (begun client own s).state.ends holds.1 (record { controllers = refl; members = refl; clients = sym (length-set s.ends.clients client _) }),
+      ends_on (plain_world plan).state.ends s.ends (begun client own s).state.ends holds.1 (record { controllers = refl; members = refl; clients = sym (length-set s.ends.clients client _); stations = refl }),
       holds.2,
     );
     comes = λ n end w piece s given b here came bytes side holds. (
@@ -268,8 +268,8 @@ module _ (plan : Plan) where
   facts_first : (on : Option Delivery) → CallFacts 0 (started 0 on) (plain_world plan).state [] blank
   facts_first on = ((first_kept plan on, first_even plan on), (refl, same_ends (plain_world plan).state.ends, record { accepted = tt; calls = tt }))
 
--- the unit of each message's call is marked as a call, after every run in which nothing seals
-pub calls_marked : (plan : Plan) (moves : List Move) → NothingSeals plan → CallsAreMarked (past plan moves)
+-- the unit of each message's call is marked as a call, after every run of a plain plan
+pub calls_marked : (plan : Plan) (moves : List Move) → IsPlainPlan plan → CallsAreMarked (past plan moves)
 calls_marked plan moves nothing =
     let p : Past = past plan moves in
     let after : HoldsAfterMoves ⊥ (CallFacts plan) plan moves = moves_keep_plain ⊥ (CallFacts plan) (facts_keep plan) plan moves nothing (λ none. absurd none) (facts_first plan) in

@@ -63,13 +63,13 @@ module _ (n : ℕ) (plans : List MemberPlan) (ends : EndStates) (links : List Ro
       KeptSo later plans (record ends { controllers = slice_set ends.controllers at new }) (drawn ++ more) links sent messages
   controllers_so later at new drawn more onward kept few differ =
       ends_other n later onward plans ends (record ends { controllers = slice_set ends.controllers at new }) drawn more links sent messages refl
-      (record { controllers = length-set ends.controllers at new; members = refl; clients = refl }) (kept (omega (arith, onward, few)) (differ_front drawn more differ))
+      (record { controllers = length-set ends.controllers at new; members = refl; clients = refl; stations = refl }) (kept (omega (arith, onward, few)) (differ_front drawn more differ))
 
   clients_so : (later at : ℕ) (new : ClientState) (drawn more : List (List ℕ)) → n ≤ later → KeptSo n plans ends drawn links sent messages →
       KeptSo later plans (record ends { clients = slice_set ends.clients at new }) (drawn ++ more) links sent messages
   clients_so later at new drawn more onward kept few differ =
       ends_other n later onward plans ends (record ends { clients = slice_set ends.clients at new }) drawn more links sent messages refl
-      (record { controllers = refl; members = refl; clients = length-set ends.clients at new }) (kept (omega (arith, onward, few)) (differ_front drawn more differ))
+      (record { controllers = refl; members = refl; clients = length-set ends.clients at new; stations = refl }) (kept (omega (arith, onward, few)) (differ_front drawn more differ))
 
   -- an end that isn't there takes no step
   pub none_so : (drawn : List (List ℕ)) → KeptSo n plans ends drawn links sent messages → KeptSo (n + 1) plans ends drawn links sent messages

@@ -1,4 +1,4 @@
--- In every run in which nothing seals a message whose answer was taken has a call: a member takes an answer in a turn
+-- In every run of a plain plan a message whose answer was taken has a call: a member takes an answer in a turn
 -- whose call is out, and each call that goes out is written down with its number, however many units come in one piece.
 -- It serves `Proved.have_calls`.
 use Rattle.std.proofs.Common.{◌≡◌, ℕ, false, List, [], length, inl, inr, Option, Some, None, sym, ap, ◌∙◌, subst, slice_get, slice_set}
@@ -32,7 +32,7 @@ use Rattle.world_moves.specs.Acting.{Given, forget}
 use Rattle.world_moves.specs.Ends.{EndStates, EndStep}
 use Rattle.world_moves.specs.Links.{acceptor_of}
 use Rattle.world_moves.specs.Moving.{changed, with_link}
-use Rattle.world_moves.specs.Plain.{NothingSeals, hear_plain as hear, plain_member_step as member_step, plain_world, renewed_plain as renewed}
+use Rattle.world_moves.specs.Plain.{IsPlainPlan, hear_plain as hear, plain_member_step as member_step, plain_world, renewed_plain as renewed}
 use Rattle.world_moves.proofs.ChangeLaws.{by_change, member_begun}
 use Rattle.world_moves.proofs.PlainKindLaws.{members_plain, renew_plain_by}
 use Rattle.domain_world.specs.Claims.MarkedUnits.{AnswersHaveCalls}
@@ -261,7 +261,7 @@ first_calls plan = record {
   answered = tt;
 }
 
-run_calls : (plan : Plan) (moves : List Move) → NothingSeals plan → AreCalled (past plan moves).book.messages
+run_calls : (plan : Plan) (moves : List Move) → IsPlainPlan plan → AreCalled (past plan moves).book.messages
 run_calls plan moves nothing =
     let after : HoldsAfterMoves ⊥ (Both (OfMoves IsKept) HaveFact) plan moves =
     moves_keep_plain ⊥ (Both (OfMoves IsKept) HaveFact) (join_moves ⊥ (OfMoves IsKept) HaveFact (ends_keep_by every IsKept kept_on ⊥) calls_keep) plan moves nothing (λ none. absurd none)
@@ -269,7 +269,7 @@ run_calls plan moves nothing =
     after.holds.1.answered
 
 -- a message whose answer was taken has a call: no other message came on its link
-pub answers_have_calls : (plan : Plan) (moves : List Move) → NothingSeals plan → AnswersHaveCalls (past plan moves)
+pub answers_have_calls : (plan : Plan) (moves : List Move) → IsPlainPlan plan → AnswersHaveCalls (past plan moves)
 answers_have_calls plan moves nothing =
     let messages : List MessageTaken = (past plan moves).book.messages in
     all_by_place (λ (message : MessageTaken). (u : ℕ) → message.reply ≡ Some u → (n : ℕ) × (message.call ≡ Some n)) messages (λ k message there u reply.

@@ -50,7 +50,7 @@ use Rattle.world_moves.specs.declared.links.EndId.TheVariants.{Controller}
 use Rattle.domain_world.specs.Accepting.Answered.{IsItsWay, MarksHaveTheirWay}
 use Rattle.domain_world.specs.Past.{Delivery, answers_of, asked_in_turn, asking_by, asking_marks, asking_notes, at_controller, beside_mark, controller_asked, forward_mark, heard_marks, is_sent_on, mark_or, marks_by, marks_of, past, still_waits}
 use Rattle.wire_base.proofs.ListLaws.{got_nothing, some_is}
-use Rattle.world_moves.specs.Plain.{NothingSeals, plain_controller_step as controller_step}
+use Rattle.world_moves.specs.Plain.{IsPlainPlan, plain_controller_step as controller_step}
 use Rattle.domain_world.proofs.Frames.BagFrameLaws.{IsOfUnit, MarksStay, UnitFact, member_marks}
 use Rattle.domain_world.proofs.Frames.EveryMarkLaws.{EveryMarks, every_marked}
 use Rattle.domain_world.proofs.Frames.EveryStepLaws.{stepped}
@@ -274,7 +274,7 @@ ways_hold = record {
 }
 
 -- in every run
-pub marks_have_their_way : (plan : Plan) (moves : List Move) → NothingSeals plan → MarksHaveTheirWay (past plan moves)
+pub marks_have_their_way : (plan : Plan) (moves : List Move) → IsPlainPlan plan → MarksHaveTheirWay (past plan moves)
 marks_have_their_way plan moves nothing number unit one there marked =
     let is : IsOfUnit OfUnit tt (past plan moves).world.state.bag number one.mark = every_marked (λ (b : Book). tt) OfUnit ways_hold plan moves nothing number one marked in
     subst (λ (u : BagUnit). IsItsWay u.back one.mark) (some_is is.unit unit (sym is.there ∙ there)) is.holds

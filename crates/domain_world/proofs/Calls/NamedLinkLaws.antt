@@ -3,7 +3,7 @@
 use Rattle.std.proofs.Common.{◌≡◌, ℕ, length, Option, Some, None, sym, ap, ◌∙◌}
 use Rattle.member_server.specs.declared.plan.MemberPlan.{MemberPlan}
 use Rattle.world_moves.specs.declared.links.EndId.{EndId}
-use Rattle.world_moves.specs.declared.links.EndId.TheVariants.{Client, Controller, Member}
+use Rattle.world_moves.specs.declared.links.EndId.TheVariants.{Client, Controller, Member, Station}
 use Rattle.world_moves.specs.declared.links.Route.{Route}
 use Rattle.world_moves.specs.declared.links.Route.TheVariants.{ToController}
 use Rattle.world_moves.specs.Links.{acceptor_of}
@@ -20,6 +20,7 @@ route_named (Some (Controller controller)) member none route is =
     ap acceptor_of (sym same)
 route_named (Some (Member other)) member none route is = absurd cc
 route_named (Some (Client client)) member none route is = absurd cc
+route_named (Some (Station station)) member none route is = absurd cc
 
 pub links_reach : LinksReachTheNamed
 links_reach s member plan route at is =

@@ -31,7 +31,7 @@ use Rattle.world_moves.specs.declared.plan.Plan.{Plan}
 use Rattle.world_moves.specs.declared.state.State.{State}
 use Rattle.world_moves.specs.Draws.{DrawsDiffer}
 use Rattle.world_moves.specs.Links.{acceptor_of}
-use Rattle.world_moves.specs.Plain.{NothingSeals, plain_world}
+use Rattle.world_moves.specs.Plain.{IsPlainPlan, plain_world}
 use Rattle.domain_world.specs.Claims.{IsUnusedChallenge}
 use Rattle.domain_world.specs.Claims.OwnChallenges.{HasOwnChallenge, MessagesHaveOwnChallenges}
 use Rattle.domain_world.specs.Past.{Delivery, Past, at_member, change_if, change_message, note_member, note_messages, note_turn, past, with_answer, with_call}
@@ -341,12 +341,12 @@ apart_so challenges drawn drew differ apart i j d lt within same =
     (All-from_recursion (IsDrawn drawn) challenges drew i d (omega (arith, lt, within)) ∙ ap (λ (challenge : List ℕ). Some challenge) same))
 
 -- in every run each link has its own CHALLENGE
-pub links_own : (plan : Plan) (moves : List Move) → NothingSeals plan →
+pub links_own : (plan : Plan) (moves : List Move) → IsPlainPlan plan →
     AreOwn (notes_of (past plan moves).book) (past plan moves).world.state.ends.members (past plan moves).world.state.chances.drawn (past plan moves).world.state.links
 links_own plan moves nothing = members_after notes_of Owns owns_on plan moves nothing (first_owns plan)
 
 -- in every run whose draws differ each message is for the own unused challenge of its link
-pub messages_own : (plan : Plan) (moves : List Move) → NothingSeals plan → DrawsDiffer (past plan moves).world → MessagesHaveOwnChallenges (past plan moves)
+pub messages_own : (plan : Plan) (moves : List Move) → IsPlainPlan plan → DrawsDiffer (past plan moves).world → MessagesHaveOwnChallenges (past plan moves)
 messages_own plan moves nothing differ =
     let run : Past = past plan moves in
     let kept : AreOwn (notes_of run.book) run.world.state.ends.members run.world.state.chances.drawn run.world.state.links = links_own plan moves nothing in

@@ -14,7 +14,7 @@ use Rattle.wire_base.proofs.ListLaws.{one_weaker}
 use Rattle.step_notes.specs.Records.{MessageTaken}
 use Rattle.world_moves.specs.declared.moves.Move.{Move}
 use Rattle.world_moves.specs.declared.plan.Plan.{Plan}
-use Rattle.world_moves.specs.Plain.{NothingSeals}
+use Rattle.world_moves.specs.Plain.{IsPlainPlan}
 use Rattle.domain_world.specs.Claims.WrittenDown.{IsChallengeOf, IsMessageOf, MembersAreWrittenDown}
 use Rattle.domain_world.specs.Past.{Past, past}
 use Rattle.step_notes.proofs.Members.KeptLogonLaws.{HasFor, IsFor, KeptIn, each_found}
@@ -64,7 +64,7 @@ challenge_is run member (Some one) running number link bound challenge flags run
 
 -- ---- a run
 
-pub members_written_down : (plan : Plan) (moves : List Move) → NothingSeals plan → MembersAreWrittenDown (past plan moves)
+pub members_written_down : (plan : Plan) (moves : List Move) → IsPlainPlan plan → MembersAreWrittenDown (past plan moves)
 members_written_down plan moves nothing =
     let run : Past = past plan moves in
     let holds : HoldsOf run.world run.book = run_holds plan moves nothing in

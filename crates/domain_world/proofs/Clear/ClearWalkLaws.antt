@@ -56,6 +56,7 @@ use Rattle.domain_world.proofs.Frames.AloneFrameLaws.{stands_first}
 use Rattle.world_moves.specs.Choosing.{chosen_place}
 use Rattle.world_moves.specs.declared.moves.Move.TheVariants as move
 use Rattle.world_moves.specs.Alone.{IsPlainAlone}
+use Rattle.world_moves.specs.Ends.{starters_in}
 
 -- ---- how far a logon is
 
@@ -245,7 +246,7 @@ module _ (plan : Plan) (is : IsPlan plan) (forms : HasForms plan) (servers : Has
     stage : Stage plan p s b
 
   module _ (number client : ℕ) (w : World) (b : Book) (rest : AtRest plan w.state) (task : ClientPlan) (is_task : slice_get plan.clients client ≡ Some task) (own : HasOwnMember plan client)
-      (chosen : chosen_place number (length w.state.ends.clients) ≡ Some client) (clean : IsClean (start number w.state).state (note w (move.Start number) b)) where
+      (chosen : chosen_place number (starters_in w.state.ends) ≡ Some client) (clean : IsClean (start number w.state).state (note w (move.Start number) b)) where
     abbrev BeginsAt : Type 0
     BeginsAt = Begun (start number w.state).state (note w (move.Start number) b)
 
@@ -303,7 +304,7 @@ module _ (plan : Plan) (is : IsPlan plan) (forms : HasForms plan) (servers : Has
       let enough : HasEnough (length moves) (start number w.state).state.chances.left =
       subst (λ (chances : Drawing). HasEnough (length moves) chances.left) (sym (start_chances number w.state)) (fewer_moves (length moves) w.state.chances.left resting.enough) in
       then_on (along_next plan (move.Start number) moves w along) owns.1 is_book
-      (elim (begins_so plan (length moves) w.state number is forms servers along.same resting) [
+      (elim (begins_so plan (length moves) w.state number is forms servers along.same along.stands.plain resting) [
         | inl none ↦ inl (
           record { rest = subst (λ (s : State). AtRest plan s) (sym none.0) resting.rest; enough = enough },
           clean,

@@ -1,6 +1,6 @@
 -- Without controllers, or without members, no credential clashes: no link leads from a member to a controller.
 -- It serves `Proved.one_by_one`.
-use Rattle.std.proofs.Common.{◌≡◌, ℕ, zero, suc, ◌+◌, Bool, true, false, List, [], ◌∷◌, ◌++◌, length, Option, Some, None, inl, inr, refl, sym, ap, ap₂, subst, ◌∙◌, slice_get, arith}
+use Rattle.std.proofs.Common.{◌≡◌, ℕ, zero, suc, ◌+◌, ◌-◌, Bool, true, false, List, [], ◌∷◌, ◌++◌, length, Option, Some, None, inl, inr, refl, sym, ap, ap₂, subst, ◌∙◌, slice_get, arith}
 use Rattle.std.specs.Prelude.{◌⊎◌, drop, filter}
 use Rattle.std.specs.List.{AllByRecursion}
 use Rattle.std.proofs.lemmas.Bool.{cases_Bool}
@@ -21,20 +21,21 @@ use Rattle.step_notes.specs.MemberNotes.{turn_units, turn_units_in, turn_units_o
 use Rattle.step_notes.specs.Records.{Book, OfMember, blank, unit_in}
 use Rattle.world_moves.specs.declared.bag.BagUnit.{BagUnit}
 use Rattle.world_moves.specs.declared.links.EndId.{EndId}
-use Rattle.world_moves.specs.declared.links.EndId.TheVariants.{Client, Controller, Member}
+use Rattle.world_moves.specs.declared.links.EndId.TheVariants.{Client, Controller, Member, Station}
 use Rattle.world_moves.specs.declared.links.OpenLink.{OpenLink}
 use Rattle.world_moves.specs.declared.links.Route.{Route}
-use Rattle.world_moves.specs.declared.links.Route.TheVariants.{Between, Stranger, ToController, ToMember}
+use Rattle.world_moves.specs.declared.links.Route.TheVariants.{Between, FromStation, Stranger, ToController, ToMember}
 use Rattle.world_moves.specs.declared.moves.Move.{Move}
 use Rattle.world_moves.specs.declared.plan.Plan.{Plan}
 use Rattle.world_moves.specs.declared.state.State.{State}
 use Rattle.world_moves.specs.declared.state.WaitingDial.{WaitingDial}
-use Rattle.world_moves.specs.Acting.{Given, AfterHearing, close_open, dials_of_action, forget, hear, hear_and_act, is_of_other, link_closed, perform, perform_all, perform_by, units_of_action}
+use Rattle.world_moves.specs.Acting.{Given, AfterHearing, close_open, dials_of_action, forget, hear, hear_and_act, is_of_other, link_closed, perform, perform_all, perform_by, units_of_action, Acted}
 use Rattle.world_moves.specs.Bag.{first_waiting, pieces_of}
 use Rattle.world_moves.specs.Forms.{IsSchedule}
 use Rattle.world_moves.specs.Links.{OpenMap, acceptor_of, forget_end}
-use Rattle.world_moves.specs.Moving.{act, answer_by, answered_link, begun, come_by, come_on_own, connect_by, connect_first, end_of_peer, onward_by, route_to, settle, start_at, start_by, with_link, without_first, changed}
+use Rattle.world_moves.specs.Moving.{act, answer_by, answered_link, begun, come_by, come_on_own, connect_by, connect_first, end_of_peer, onward_by, route_to, settle, start_at, start_by, with_link, without_first, changed, start_station_by, station_begun}
 use Rattle.world_moves.specs.World.{World, first_world, happens, run}
+use Rattle.world_moves.proofs.PlainLaws.{none_start}
 use Rattle.world_moves.proofs.StateFrameLaws.{HoldsActing, actions_so, closed_so, hears_so, pieces_so}
 use Rattle.logon_runs.specs.Scenes.Others.{IsStepOn}
 use Rattle.logon_runs.specs.Scenes.Staying.{HasSameEnds}
@@ -44,6 +45,8 @@ use Rattle.logon_runs.proofs.Scenes.StepOnLaws.{by_step}
 use Rattle.wire_base.proofs.ListLaws.{got_nothing, some_is}
 use Rattle.world_moves.specs.Choosing.{chosen_place}
 use Rattle.world_moves.specs.Alone.{IsPlainAlone, hear_alone}
+use Rattle.world_moves.specs.Ends.{starters_in}
+use Rattle.world_moves.specs.Plain.{IsPlain}
 use Rattle.domain_world.specs.Past.{Delivery, book, controller_asked, note, note_member, past}
 use Rattle.domain_world.proofs.Frames.AloneNoteLaws.{note_alone as note_at}
 use Rattle.domain_world.proofs.Frames.AloneStepLaws.{act_alone}
@@ -58,12 +61,14 @@ use Rattle.domain_world.proofs.Clear.NotedLaws.{AreOwn, client_fine, member_fine
 use Rattle.domain_world.proofs.Clear.PhaseClearLaws.{IsClean, rest_clean, start_clean}
 use Rattle.domain_world.proofs.Moves.OpenMadeLaws.{IsAtSide, side_of}
 use Rattle.domain_world.proofs.Frames.StepFrameLaws.{AnyAction, BothFacts, BothFine, HasHeard, HoldsAfterRun, StepKeeps, RunFact, all_any, join, run_keeps}
+use Rattle.interactive_station.specs.declared.plan.StationPlan.{StationPlan}
 
 -- ---- while each link leads from a client to a member
 
 abbrev pub IsToMember : Route → Type 0
 IsToMember (ToMember client member) = Unit {0}
 IsToMember (ToController member controller) = ⊥
+IsToMember (FromStation station controller) = ⊥
 IsToMember (Between from to) = ⊥
 IsToMember (Stranger to) = ⊥
 
@@ -91,6 +96,7 @@ ClearFact n s given b = AreToMembers s.links → b.clash ≡ false
 no_controller : (back : Bool) (route : Route) (at : ℕ) → IsToMember route → side_of back route ≡ Some (Controller at) → ⊥
 no_controller back (ToController member controller) at is side = is
 no_controller back (Between from to) at is side = is
+no_controller back (FromStation station controller) at is side = is
 no_controller back (Stranger to) at is side = is
 no_controller false (ToMember client member) at is side = absurd cc
 no_controller true (ToMember client member) at is side = absurd cc
@@ -123,6 +129,7 @@ comes_clear : (end : EndId) (w : Delivery) (piece : List ℕ) (s after : State) 
 comes_clear (Controller at) w piece s after b side all quiet apart = absurd (no_controller w.back side.route at (one_of s.links w.link side.route all side.made) side.side)
 comes_clear (Member at) w piece s after b side all quiet apart = member_clear (slice_get s.ends.members at) at w piece s after b refl all quiet apart
 comes_clear (Client at) w piece s after b side all quiet apart = (client_fine (slice_get s.ends.clients at) at w piece s b).0 ∙ apart
+comes_clear (Station at) w piece s after b side all quiet apart = apart
 
 so_heard : (n : ℕ) (end : EndId) (heard : AfterHearing) (given : Given) (b : Book) → (AreToMembers heard.state.links → b.clash ≡ false) → HasHeard ClearFact AnyAction (n + 1) end heard given b
 so_heard n end heard given b clear = record { holds = clear; fine = all_any heard.actions }
@@ -204,8 +211,14 @@ onward_stays : (number : Option ℕ) (s : State) → AreToMembers s.links → Ar
 onward_stays None s all = all
 onward_stays (Some number) s all = own_stays (slice_get s.bag number) number s all
 
+station_by_stays : (plan : Option StationPlan) (at : ℕ) (s : State) → AreToMembers s.links → AreToMembers (start_station_by plan at s).state.links
+station_by_stays None at s all = all
+station_by_stays (Some plan) at s all =
+    let heard : AfterHearing = station_begun at plan (forget (Station at) s) in
+    actions_so StaysToMembers acting (Station at) heard.actions heard.state all
+
 start_by_stays : (plan : Option ClientPlan) (at : ℕ) (s : State) → AreToMembers s.links → AreToMembers (start_by plan at s).state.links
-start_by_stays None at s all = all
+start_by_stays None at s all = station_by_stays (slice_get s.station_plans (at - length s.client_plans)) (at - length s.client_plans) s all
 start_by_stays (Some plan) at s all =
     let heard : AfterHearing = begun at plan (forget (Client at) s) in
     actions_so StaysToMembers acting (Client at) heard.actions heard.state all
@@ -222,15 +235,23 @@ no_route : (end : EndId) (found : Option EndId) (route : Route) → ((at : ℕ) 
 no_route (Client client) (Some (Member member)) route never is = subst IsToMember (some_is (ToMember client member) route is) tt
 no_route (Client client) (Some (Controller at)) route never is = absurd (never at refl)
 no_route (Client client) (Some (Client other)) route never is = absurd (some_not is)
+no_route (Client client) (Some (Station other)) route never is = absurd (some_not is)
 no_route (Client client) None route never is = absurd (some_not is)
 no_route (Member member) (Some (Controller at)) route never is = absurd (never at refl)
 no_route (Member member) (Some (Member other)) route never is = absurd (some_not is)
 no_route (Member member) (Some (Client other)) route never is = absurd (some_not is)
+no_route (Member member) (Some (Station other)) route never is = absurd (some_not is)
 no_route (Member member) None route never is = absurd (some_not is)
 no_route (Controller from) (Some (Controller at)) route never is = absurd (never at refl)
 no_route (Controller from) (Some (Member other)) route never is = absurd (some_not is)
 no_route (Controller from) (Some (Client other)) route never is = absurd (some_not is)
+no_route (Controller from) (Some (Station other)) route never is = absurd (some_not is)
 no_route (Controller from) None route never is = absurd (some_not is)
+no_route (Station station) (Some (Controller at)) route never is = absurd (never at refl)
+no_route (Station station) (Some (Member other)) route never is = absurd (some_not is)
+no_route (Station station) (Some (Client other)) route never is = absurd (some_not is)
+no_route (Station station) (Some (Station other)) route never is = absurd (some_not is)
+no_route (Station station) None route never is = absurd (some_not is)
 
 no_controllers : (plan : Plan) (s : State) → plan.tables ≡ [] → HasSameEnds (first_world plan).state s → (peer : List ℕ) (at : ℕ) → end_of_peer peer s.ends ≡ Some (Controller at) → ⊥
 no_controllers plan s none same peer at is =
@@ -247,7 +268,7 @@ links_stay : (plan : Plan) (moves : List Move) (w : World) → plan.tables ≡ [
 links_stay plan [] w none along all = all
 links_stay plan (what ∷ moves) w none along all =
     links_stay plan moves (happens w what) none (along_next plan what moves w along)
-    (by_plain (λ (one : Move). AreToMembers (act w.state one).state.links) (λ number. start_stays (chosen_place number (length w.state.ends.clients)) w.state all)
+    (by_plain (λ (one : Move). AreToMembers (act w.state one).state.links) (λ number. start_stays (chosen_place number (starters_in w.state.ends)) w.state all)
     (λ one steps. step_stays plan one w.state none along.same steps all) what along.plain.0)
 
 -- ---- without members nothing comes
@@ -256,6 +277,7 @@ abbrev IsOfClient : EndId → Type 0
 IsOfClient (Member at) = ⊥
 IsOfClient (Controller at) = ⊥
 IsOfClient (Client at) = Unit {0}
+IsOfClient (Station at) = ⊥
 
 -- the dials that wait are all of clients
 abbrev AreOfClients : List WaitingDial → Type 0
@@ -320,9 +342,9 @@ hears_bare end what s is bare =
     all_bare end (hear end what s).actions (hear end what s).state is (record { links = bare.links; opened = bare.opened; bag = bare.bag; dials = bare.dials })
 
 -- the moves
-start_by_bare : (plan : Option ClientPlan) (at : ℕ) (s : State) → IsBare s → IsBare (start_by plan at s).state
-start_by_bare None at s bare = bare
-start_by_bare (Some plan) at s bare =
+start_by_bare : (plan : Option ClientPlan) (at : ℕ) (s : State) → IsPlain s → IsBare s → IsBare (start_by plan at s).state
+start_by_bare None at s plain bare = subst (λ (acted : Acted). IsBare acted.state) (sym (none_start (at - length s.client_plans) s plain)) bare
+start_by_bare (Some plan) at s plain bare =
     let heard : AfterHearing = begun at plan (forget (Client at) s) in
     all_bare (Client at) heard.actions heard.state tt
     (record {
@@ -332,9 +354,9 @@ start_by_bare (Some plan) at s bare =
       dials = dials_left (is_of_other (Client at)) s.dials bare.dials;
     })
 
-start_bare : (at : Option ℕ) (s : State) → IsBare s → IsBare (start_at at s).state
-start_bare None s bare = bare
-start_bare (Some at) s bare = start_by_bare (slice_get s.client_plans at) at s bare
+start_bare : (at : Option ℕ) (s : State) → IsPlain s → IsBare s → IsBare (start_at at s).state
+start_bare None s plain bare = bare
+start_bare (Some at) s plain bare = start_by_bare (slice_get s.client_plans at) at s plain bare
 
 no_way : (end : EndId) (found : Option EndId) → IsOfClient end → ((at : ℕ) → found ≡ Some (Member at) → ⊥) → route_to end found ≡ None
 no_way (Member at) found is never = absurd is
@@ -343,6 +365,8 @@ no_way (Client at) None is never = refl
 no_way (Client at) (Some (Member member)) is never = absurd (never member refl)
 no_way (Client at) (Some (Controller controller)) is never = refl
 no_way (Client at) (Some (Client other)) is never = refl
+no_way (Client at) (Some (Station other)) is never = refl
+no_way (Station at) found is never = absurd is
 
 no_members : (plan : Plan) (s : State) → plan.members ≡ [] → HasSameEnds (first_world plan).state s → (peer : List ℕ) (at : ℕ) → end_of_peer peer s.ends ≡ Some (Member at) → ⊥
 no_members plan s none same peer at is = omega (arith, member_within peer s.ends at is, same.ends.members, many_members plan.members, ap length none)
@@ -367,7 +391,7 @@ clear_bare plan [] w b none along bare clean = clean.apart
 clear_bare plan (what ∷ moves) w b none along bare clean =
     let after : IsBare (act w.state what).state × IsClean (act w.state what).state (note w what b) =
     by_plain (λ (one : Move). IsBare (act w.state one).state × IsClean (act w.state one).state (note w one b))
-    (λ number. (start_bare (chosen_place number (length w.state.ends.clients)) w.state bare, start_clean number w b clean))
+    (λ number. (start_bare (chosen_place number (starters_in w.state.ends)) w.state along.stands.plain bare, start_clean number w b clean))
     (λ one steps. (step_bare plan one w.state none along.same steps bare, rest_clean w b one steps (ap (λ (bag : List BagUnit). waiting bag) bare.bag) clean)) what along.plain.0 in
     clear_bare plan moves (happens w what) (note w what b) none (along_next plan what moves w along) after.0 after.1
 

@@ -1,6 +1,6 @@
 -- The moment is one of 64 bits in each state, and a client that starts draws no challenge and sends no unit.
 -- It serves `Proved.complete`.
-use Rattle.std.proofs.Common.{◌≡◌, ℕ, ◌+◌, ◌≤◌, ◌<◌, ◌^◌, Bool, true, false, refl, ap, length, Option, Some, None, slice_get, arith, if◌then◌else◌, append-nil, ◌∙◌}
+use Rattle.std.proofs.Common.{◌≡◌, ℕ, ◌+◌, ◌-◌, ◌≤◌, ◌<◌, ◌^◌, Bool, true, false, refl, ap, length, Option, Some, None, slice_get, arith, if◌then◌else◌, append-nil, ◌∙◌}
 use Rattle.std.specs.Prelude.{min, nat_le}
 use Rattle.logon_client.specs.Machine.{Beginning}
 use Rattle.logon_client.specs.declared.plan.ClientPlan.{ClientPlan}
@@ -9,10 +9,12 @@ use Rattle.world_moves.specs.declared.moves.Move.{Move}
 use Rattle.world_moves.specs.declared.state.State.{State}
 use Rattle.world_moves.specs.Acting.{done, forget}
 use Rattle.world_moves.specs.Choosing.{chosen_place}
-use Rattle.world_moves.specs.Moving.{act, start, start_at, start_by}
+use Rattle.world_moves.specs.Ends.{starters_in}
+use Rattle.world_moves.specs.Moving.{act, start, start_at, start_by, start_station_by}
 use Rattle.world_moves.proofs.StateFrameLaws.{HoldsMoving, StateFact, move_so}
 use Rattle.logon_steps.proofs.ClientStepLaws.{clients_step}
 use Rattle.logon_runs.proofs.Scenes.StartLaws.{begun_so}
+use Rattle.interactive_station.specs.declared.plan.StationPlan.{StationPlan}
 
 -- ---- the moment stays below 2^64
 
@@ -37,6 +39,7 @@ stays_below = record {
     shuts = λ link s below. below;
   };
   begins = λ client plan s below. below;
+  starts = λ station plan s below. below;
   opens = λ route s below. below;
   answers = λ link there s is below. below;
   forgets = λ end s below. below;
@@ -52,8 +55,12 @@ moment_below s what below = move_so StaysBelow stays_below what s below
 
 -- ---- challenges
 
+station_by_chances : (plan : Option StationPlan) (at : ℕ) (s : State) → (start_station_by plan at s).state.chances ≡ s.chances
+station_by_chances None at s = refl
+station_by_chances (Some plan) at s = refl
+
 start_by_chances : (plan : Option ClientPlan) (at : ℕ) (s : State) → (start_by plan at s).state.chances ≡ s.chances
-start_by_chances None at s = refl
+start_by_chances None at s = station_by_chances (slice_get s.station_plans (at - length s.client_plans)) (at - length s.client_plans) s
 start_by_chances (Some plan) at s = ap (λ (beginning : Beginning). (done (Client at) (begun_so at beginning (forget (Client at) s))).state.chances) (clients_step.begins plan)
 
 start_at_chances : (at : Option ℕ) (s : State) → (start_at at s).state.chances ≡ s.chances
@@ -61,12 +68,16 @@ start_at_chances None s = refl
 start_at_chances (Some at) s = start_by_chances (slice_get s.client_plans at) at s
 
 pub start_chances : (number : ℕ) (s : State) → (start number s).state.chances ≡ s.chances
-start_chances number s = start_at_chances (chosen_place number (length s.ends.clients)) s
+start_chances number s = start_at_chances (chosen_place number (starters_in s.ends)) s
 
 -- ---- units
 
+station_by_bag : (plan : Option StationPlan) (at : ℕ) (s : State) → (start_station_by plan at s).state.bag ≡ s.bag
+station_by_bag None at s = refl
+station_by_bag (Some plan) at s = append-nil s.bag
+
 start_by_bag : (plan : Option ClientPlan) (at : ℕ) (s : State) → (start_by plan at s).state.bag ≡ s.bag
-start_by_bag None at s = refl
+start_by_bag None at s = station_by_bag (slice_get s.station_plans (at - length s.client_plans)) (at - length s.client_plans) s
 start_by_bag (Some plan) at s = ap (λ (beginning : Beginning). (done (Client at) (begun_so at beginning (forget (Client at) s))).state.bag) (clients_step.begins plan)
     ∙ append-nil s.bag
 
@@ -75,4 +86,4 @@ start_at_bag None s = refl
 start_at_bag (Some at) s = start_by_bag (slice_get s.client_plans at) at s
 
 pub start_bag : (number : ℕ) (s : State) → (start number s).state.bag ≡ s.bag
-start_bag number s = start_at_bag (chosen_place number (length s.ends.clients)) s
+start_bag number s = start_at_bag (chosen_place number (starters_in s.ends)) s

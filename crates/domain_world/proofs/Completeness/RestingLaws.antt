@@ -11,7 +11,7 @@ use Rattle.outside.specs.Drawing.{Drawing}
 use Rattle.logon_client.specs.Machine.{fresh_client}
 use Rattle.world_moves.specs.declared.state.WaitingDial.{WaitingDial}
 use Rattle.world_moves.specs.Acting.{Acted}
-use Rattle.world_moves.specs.Ends.{EndStates}
+use Rattle.world_moves.specs.Ends.{EndStates, starters_in}
 use Rattle.logon_client.specs.State.{State as ClientState}
 use Rattle.logon_client.specs.declared.plan.ClientPlan.{ClientPlan}
 use Rattle.logon_stubs.specs.Ranges.{IsBlock}
@@ -22,6 +22,7 @@ use Rattle.world_moves.specs.declared.state.State.{State}
 use Rattle.world_moves.specs.Choosing.{chosen_place, place_by}
 use Rattle.world_moves.specs.Forms.{HasForms}
 use Rattle.world_moves.specs.Moving.{act, connect_first, start, start_at, without_first}
+use Rattle.world_moves.specs.Plain.{IsPlain}
 use Rattle.world_moves.specs.World.{IsPlan, World, first_world, happens, run}
 use Rattle.logon_runs.specs.AnyAnswer.AnyLogons.{AreBelow, DrawsUpTo, HasServers, LogonRests}
 use Rattle.logon_runs.specs.Scenes.Others.{IsStepOn}
@@ -39,6 +40,7 @@ use Rattle.domain_world.specs.Claims.Completeness.{IsPlainMove, IsQuiet, OneAtAT
 use Rattle.domain_world.proofs.Frames.AloneFrameLaws.{StandsAlone, stands_next}
 use Rattle.domain_world.proofs.Completeness.MomentLaws.{moment_below, start_chances}
 use Rattle.domain_world.proofs.Completeness.PlainLaws.{by_plain, later_starts}
+use Rattle.world_moves.proofs.PlainLaws.{starters_plain}
 
 -- ---- challenges
 
@@ -62,7 +64,7 @@ none_before : (count : ℕ) → 0 + count ≡ count
 none_before count = omega arith
 
 pub begins_going : (plan : Plan) (s : State) → AtRest plan s → (client : ℕ) (task : ClientPlan) (number : ℕ) → IsPlan plan → HasForms plan → HasServers plan →
-    slice_get plan.clients client ≡ Some task → HasSameEnds (first_world plan).state s → chosen_place number (length s.ends.clients) ≡ Some client → IsGoing plan s client task (start number s).state 0 (start number s).state
+    slice_get plan.clients client ≡ Some task → HasSameEnds (first_world plan).state s → chosen_place number (starters_in s.ends) ≡ Some client → IsGoing plan s client task (start number s).state 0 (start number s).state
 begins_going plan s rest client task number is forms servers is_task same chosen = record {
   closes = λ more steps below enough dials units.
       subst (λ (moves : ℕ). LogonRests plan s client task moves (start number s).state (moved_by more (start number s).state)) (sym (none_before (length more)))
@@ -162,7 +164,7 @@ task_so (task ∷ clients) (suc at) inside = task_so clients at (omega (arith, i
 pub record BeginsSo (plan : Plan) (left : ℕ) (s : State) (number : ℕ) : Type 0 where
   pub task : ClientPlan
   pub is_task : slice_get plan.clients (number % length plan.clients) ≡ Some task
-  pub chosen : chosen_place number (length s.ends.clients) ≡ Some (number % length plan.clients)
+  pub chosen : chosen_place number (starters_in s.ends) ≡ Some (number % length plan.clients)
   pub started : Started plan left s (number % length plan.clients) (start number s).state
 
 pub as_planned : (plan : Plan) (s : State) → HasSameEnds (first_world plan).state s → length s.ends.clients ≡ length plan.clients
@@ -178,16 +180,17 @@ no_items (item ∷ items) none = absurd (omega (arith, none))
 no_clients : (plan : Plan) (s : State) → HasSameEnds (first_world plan).state s → (length s.ends.clients == 0) ≡ true → plan.clients ≡ []
 no_clients plan s same none = no_items plan.clients (sym (as_planned plan s same) ∙ none_first (length s.ends.clients) none)
 
-pub begins_so : (plan : Plan) (left : ℕ) (s : State) (number : ℕ) → IsPlan plan → HasForms plan → HasServers plan → HasSameEnds (first_world plan).state s → Resting plan (suc left) s →
+pub begins_so : (plan : Plan) (left : ℕ) (s : State) (number : ℕ) → IsPlan plan → HasForms plan → HasServers plan → HasSameEnds (first_world plan).state s → IsPlain s → Resting plan (suc left) s →
     (((start number s).state ≡ s) × (plan.clients ≡ [])) ⊎ BeginsSo plan left s number
-begins_so plan left s number is forms servers same resting =
+begins_so plan left s number is forms servers same plain resting =
+    let clients : chosen_place number (starters_in s.ends) ≡ chosen_place number (length s.ends.clients) = ap (chosen_place number) (starters_plain s plain) in
     elim (place_so number (length s.ends.clients) (length s.ends.clients == 0) refl) [
-      | inl none ↦ inl (ap (λ (at : Option ℕ). (start_at at s).state) none.0, no_clients plan s same none.1)
+      | inl none ↦ inl (ap (λ (at : Option ℕ). (start_at at s).state) (clients ∙ none.0), no_clients plan s same none.1)
       | inr some ↦
           let count : length s.ends.clients ≡ length plan.clients = as_planned plan s same in
           let inside : 0 < length plan.clients = subst (λ (n : ℕ). 0 < n) count (some_first (length s.ends.clients) some.1) in
           let found = task_so plan.clients (number % length plan.clients) (mod_below number (length plan.clients) inside) in
-          let chosen : chosen_place number (length s.ends.clients) ≡ Some (number % length plan.clients) = some.0 ∙ ap (λ (n : ℕ). Some (number % n)) count in
+          let chosen : chosen_place number (starters_in s.ends) ≡ Some (number % length plan.clients) = clients ∙ some.0 ∙ ap (λ (n : ℕ). Some (number % n)) count in
           inr (record {
             task = found.0;
             is_task = found.1;
@@ -261,10 +264,10 @@ step_keeps plan left client value now what steps below (inr keeps) = inr (record
 })
 
 module _ (plan : Plan) (is : IsPlan plan) (forms : HasForms plan) (servers : HasServers plan) where
-  start_keeps : (left client : ℕ) (value : Option ClientState) (now : State) (number : ℕ) → HasSameEnds (first_world plan).state now → client ≢ number % length plan.clients →
+  start_keeps : (left client : ℕ) (value : Option ClientState) (now : State) (number : ℕ) → HasSameEnds (first_world plan).state now → IsPlain now → client ≢ number % length plan.clients →
       KeepsAtRest plan (suc left) client value now → KeepsWhereItRests plan left client value (start number now).state
-  start_keeps left client value now number same apart rests =
-      elim (begins_so plan left now number is forms servers same rests.resting) [
+  start_keeps left client value now number same plain apart rests =
+      elim (begins_so plan left now number is forms servers same plain rests.resting) [
         | inl none ↦ subst (λ (s : State). KeepsWhereItRests plan left client value s) (sym none.0)
             (inl (record { resting = record { rest = rests.resting.rest; enough = fewer_moves left now.chances.left rests.resting.enough }; is = rests.is }))
         | inr begins ↦ inr (record { s = now; other = number % length plan.clients; started = begins.started; apart = apart; was = rests.is })
@@ -281,7 +284,7 @@ module _ (plan : Plan) (is : IsPlan plan) (forms : HasForms plan) (servers : Has
       slice_get (run moves (happens w one)).state.ends.clients client ≡ value)
       (λ number on differs kept.
       keeps_on client value moves (happens w (move.Start number)) (along_next plan (move.Start number) moves w on) differs.1
-      (start_keeps (length moves) client value w.state number on.same differs.0 (quiet_keeps plan (suc (length moves)) client value w on.quiet.0 kept)))
+      (start_keeps (length moves) client value w.state number on.same on.stands.plain differs.0 (quiet_keeps plan (suc (length moves)) client value w on.quiet.0 kept)))
       (λ one steps on differs kept.
       keeps_on client value moves (happens w one) (along_next plan one moves w on)
       (later_starts (AllByRecursion (λ (other : ℕ). client ≢ other)) one (length plan.clients) (started_in moves (length plan.clients)) steps differs)

@@ -22,6 +22,7 @@ use Rattle.world_moves.specs.Forms.{HasForms}
 use Rattle.world_moves.specs.Moving.{act, start}
 use Rattle.world_moves.specs.World.{IsPlan, World, first_world, happens, outcome_by, run}
 use Rattle.world_moves.specs.Alone.{IsPlainAlone}
+use Rattle.world_moves.specs.Ends.{starters_in}
 use Rattle.logon_runs.specs.AnyAnswer.AnyLogons.{HasServers}
 use Rattle.logon_runs.specs.Scenes.Others.{IsStepOn}
 use Rattle.logon_runs.specs.Rests.{CanBeGranted, HasBegun, HasEnough, coming_of}
@@ -77,7 +78,7 @@ past_of plan world bk = record { plan = plan; world = world; book = bk }
 
 -- the whole run, from a state that rests on
 module _ (plan : Plan) (every : List Move) (is : IsPlan plan) (forms : HasForms plan) (client : ℕ) (can : CanSucceed plan every client) (number : ℕ) (moves : List Move) (w : World) (b : Book)
-    (resting : Resting plan (suc (length moves)) w.state) (along : Along plan (move.Start number ∷ moves) w) (chosen : chosen_place number (length w.state.ends.clients) ≡ Some client)
+    (resting : Resting plan (suc (length moves)) w.state) (along : Along plan (move.Start number ∷ moves) w) (chosen : chosen_place number (starters_in w.state.ends) ≡ Some client)
     (started : Started plan (length moves) w.state client (start number w.state).state) (enough : HasEnough (length moves) (start number w.state).state.chances.left)
     (apart : AllByRecursion (λ (other : ℕ). client ≢ other) (started_in moves (length plan.clients)))
     (may : InEachState (MayLogOnIn can.controller (info_planned can.task)) moves (happens w (move.Start number)))
@@ -196,7 +197,7 @@ module _ (plan : Plan) (every : List Move) (is : IsPlan plan) (forms : HasForms 
       Follows (move.Start number ∷ moves) w → world ≡ run moves (happens w (move.Start number)) → bk ≡ book moves (happens w (move.Start number)) (note w (move.Start number) b) →
       Resting plan (suc (length moves)) w.state → GoalOf (number % length plan.clients) × AllByRecursion GoalOf (started_in moves (length plan.clients))
   each_starts number moves w b then_on along once follows is_world is_book resting =
-      elim (begins_so plan (length moves) w.state number is forms servers along.same resting) [
+      elim (begins_so plan (length moves) w.state number is forms servers along.same along.stands.plain resting) [
         | inl none ↦ (
           (λ can safe. absurd (got_nothing (number % length plan.clients) can.task (subst (λ (clients : List ClientPlan). slice_get clients (number % length plan.clients) ≡ Some can.task) none.1 can.is_task))),
           then_on (along_next plan (move.Start number) moves w along) (later_differ (number % length plan.clients) (started_in moves (length plan.clients)) once)

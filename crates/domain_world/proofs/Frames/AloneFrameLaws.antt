@@ -1,6 +1,6 @@
--- A world in which nothing seals and whose controllers ask nobody, through its moves: no controller dials, so that no
+-- A plain world whose controllers ask nobody, through its moves: no controller dials, so that no
 -- link is between controllers, and each end hears as it does alone. So whatever is shown of ends that hear alone holds
--- of every run of a plan that hands nothing on and in which nothing seals. It serves `drive` and
+-- of every run of a plain plan that hands nothing on. It serves `drive` and
 -- the other laws of every such run.
 use Rattle.std.proofs.Common.{◌≡◌, ℕ, Bool, true, List, [], ◌∷◌, ◌++◌, drop, length, inl, inr, Option, Some, None, Result, Ok, Err, slice_get, refl, sym, subst}
 use Rattle.std.specs.Prelude.{filter}
@@ -23,9 +23,9 @@ use Rattle.domain_controller.specs.declared.state.Talk.{Talk}
 use Rattle.domain_controller.proofs.SendLaws.{answers_units}
 use Rattle.step_notes.specs.Records.{Book, blank}
 use Rattle.world_moves.specs.declared.links.EndId.{EndId}
-use Rattle.world_moves.specs.declared.links.EndId.TheVariants.{Controller, Member, Client}
+use Rattle.world_moves.specs.declared.links.EndId.TheVariants.{Controller, Member, Client, Station}
 use Rattle.world_moves.specs.declared.links.Route.{Route}
-use Rattle.world_moves.specs.declared.links.Route.TheVariants.{ToMember, ToController, Between, Stranger}
+use Rattle.world_moves.specs.declared.links.Route.TheVariants.{ToMember, ToController, Between, Stranger, FromStation}
 use Rattle.world_moves.specs.declared.moves.Move.{Move}
 use Rattle.world_moves.specs.declared.plan.Plan.{Plan}
 use Rattle.world_moves.specs.declared.state.State.{State}
@@ -56,8 +56,9 @@ abbrev pub IsOther : EndId → Type 0
 IsOther (Controller at) = ⊥
 IsOther (Member at) = Unit {0}
 IsOther (Client at) = Unit {0}
+IsOther (Station at) = ⊥
 
--- dials of others than controllers
+-- dials of members and clients
 abbrev pub AreOfOthers : List WaitingDial → Type 0
 AreOfOthers dials = AllByRecursion (λ (dial : WaitingDial). IsOther dial.end) dials
 
@@ -189,6 +190,7 @@ apart_by : (route : Route) (dial : Option EndId) → dialler_of route ≡ dial �
 apart_by (ToMember client member) dial is other = tt
 apart_by (ToController member controller) dial is other = tt
 apart_by (Between from to) dial is other = subst IsOthersDial (sym is) other
+apart_by (FromStation station controller) dial is other = subst IsOthersDial (sym is) other
 apart_by (Stranger to) dial is other = tt
 
 more_apart : (links : List Route) (route : Route) → AreApart links → IsApart route → AreApart (links ++ route ∷ [])

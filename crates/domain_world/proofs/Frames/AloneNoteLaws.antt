@@ -27,7 +27,7 @@ use Rattle.step_notes.specs.Served.{units_if_taken}
 use Rattle.step_notes.specs.TrustNotes.{asking_note, asking_units_in, asking_units_on, calls_handed, forwards_at, places_behind}
 use Rattle.step_notes.proofs.Controllers.TrustNoteLaws.{notes_alike}
 use Rattle.world_moves.specs.declared.links.EndId.{EndId}
-use Rattle.world_moves.specs.declared.links.EndId.TheVariants.{Controller, Member, Client}
+use Rattle.world_moves.specs.declared.links.EndId.TheVariants.{Controller, Member, Client, Station}
 use Rattle.world_moves.specs.declared.state.State.{State}
 use Rattle.world_moves.specs.Alone.{AsksNobody}
 use Rattle.domain_world.specs.Past.{Delivery, answers_of, any_turn_clash, asked_in_turn, asking_notes, at_controller, forwards_of, heard_marks, note_answers, note_at, note_calls, note_client, note_controller as note_every, note_member, with_clash, with_forwards, with_sent}
@@ -47,6 +47,7 @@ note_alone None w piece s after b = b
 note_alone (Some (Controller at)) w piece s after b = note_controller_alone (slice_get s.ends.controllers at) at w piece s after b
 note_alone (Some (Member at)) w piece s after b = note_member (slice_get s.ends.members at) at w piece s after b
 note_alone (Some (Client at)) w piece s after b = note_client (slice_get s.ends.clients at) at w piece s b
+note_alone (Some (Station at)) w piece s after b = b
 
 -- ---- a controller where nobody is asked
 
@@ -121,3 +122,4 @@ pub notes_alone : (end : EndId) (w : Delivery) (piece : List ℕ) (s after : Sta
 notes_alone (Controller at) w piece s after b asks = controller_noted (slice_get s.ends.controllers at) at w piece s after b (λ c is. asks.each at c is)
 notes_alone (Member at) w piece s after b asks = refl
 notes_alone (Client at) w piece s after b asks = refl
+notes_alone (Station at) w piece s after b asks = refl

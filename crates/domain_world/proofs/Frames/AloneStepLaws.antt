@@ -15,7 +15,7 @@ use Rattle.member_server.specs.State.{State as MemberState}
 use Rattle.member_server.specs.Machine.{fresh_member, step_of as member_step_of}
 use Rattle.member_server.specs.declared.plan.MemberPlan.{MemberPlan}
 use Rattle.world_moves.specs.declared.links.EndId.{EndId}
-use Rattle.world_moves.specs.declared.links.EndId.TheVariants.{Controller, Member, Client}
+use Rattle.world_moves.specs.declared.links.EndId.TheVariants.{Controller, Member, Client, Station}
 use Rattle.world_moves.specs.declared.state.State.{State}
 use Rattle.world_moves.specs.Acting.{Acted, done}
 use Rattle.world_moves.specs.Alone.{AsksNobody, TrustsNobody, alone_controller_step, alone_end_step, hear_alone}
@@ -49,6 +49,7 @@ module _ (P : EndId → EndStep → Type 0) (what : Event) (now : ℕ) (ends : E
   alone_by (Controller at) = controller_by (slice_get ends.controllers at) at refl
   alone_by (Member at) = member_by (slice_get ends.members at) at refl
   alone_by (Client at) = client_by (slice_get ends.clients at) at refl
+  alone_by (Station at) = none (Station at)
 
 -- ---- seen from the ends of one kind: the other ends leave them as they are
 
@@ -105,6 +106,7 @@ ends_alone : (end : EndId) (s : State) → AsksNobody s → renew end s ≡ rene
 ends_alone (Controller at) s asks = controller_alone s.hands_on (slice_get s.ends.controllers at) at s.ends (λ c is. asks.anew at c is)
 ends_alone (Member at) s asks = refl
 ends_alone (Client at) s asks = refl
+ends_alone (Station at) s asks = refl
 
 pub renews_alone : (end : EndId) (s : State) → AsksNobody s → renewed end s ≡ renewed_alone end s
 renews_alone end s asks = ap (λ (ends : EndStates). record s { ends = ends }) (ends_alone end s asks)

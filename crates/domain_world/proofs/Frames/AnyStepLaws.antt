@@ -1,6 +1,6 @@
 -- What a step of an end leaves of the challenges in every world, whether something seals there or not: a rest of those
 -- that were left. It serves `draws_of_runs_differ` and `what_is_not_handed_on_runs_alone`.
-use Rattle.std.proofs.Common.{ℕ, Bool, true, false, List, ◌++◌, Option, Some, None, Result, Ok, Err}
+use Rattle.std.proofs.Common.{◌≡◌, ◌==◌, ℕ, Bool, true, false, List, [], ◌∷◌, ◌++◌, Option, Some, None, Result, Ok, Err, slice_get, refl}
 use Rattle.wire_base.specs.Maps.{lookup, same_number, take_out}
 use Rattle.outside.specs.Drawing.{Drawing, IsRest}
 use Rattle.outside.specs.Machine.{Part, left_by, step_by, then_part}
@@ -41,6 +41,17 @@ use Rattle.member_server.specs.declared.state.Running.{Running as MemberRunning}
 use Rattle.member_server.specs.declared.state.TurnSealing.{TurnSealing}
 use Rattle.member_server.specs.declared.state.Work.{Work}
 use Rattle.member_server.proofs.SealLaws.{next_rest}
+use Rattle.interactive_station.specs.Machine.{actions_after, after_stream, by_close as station_close, by_event as station_event, by_piece as station_piece, halted as station_halted, opens as station_opens, state_after, station_server, step_by_outcome as station_by_outcome, step_by_running as station_by_running, work_of as station_work}
+use Rattle.interactive_station.specs.Rests.{station_leaves}
+use Rattle.interactive_station.specs.State.{StationState}
+use Rattle.interactive_station.specs.declared.outcome.StationOutcome.{StationOutcome}
+use Rattle.interactive_station.specs.declared.state.StationAfter.{StationAfter}
+use Rattle.interactive_station.specs.declared.state.StationCall.{StationCall}
+use Rattle.interactive_station.specs.declared.state.StationLink.{StationLink}
+use Rattle.interactive_station.specs.declared.state.StationLink.TheVariants as station_link
+use Rattle.interactive_station.specs.declared.state.StationRunning.{StationRunning}
+use Rattle.interactive_station.specs.declared.state.StationTalk.{StationTalk}
+use Rattle.interactive_station.specs.declared.state.StationWork.{StationWork}
 use Rattle.step_notes.proofs.Members.RestLaws.{client_leaves_rest, event_rest as member_event_rest, member_leaves}
 use Rattle.world_moves.specs.declared.links.EndId.{EndId}
 use Rattle.world_moves.specs.Ends.{EndStates, EndStep, end_step}
@@ -160,10 +171,63 @@ member_rest : (running : Option MemberRunning) (m : MemberState) (what : Event) 
 member_rest None m what now left = IsRest-refl left
 member_rest (Some running) m what now left = member_with running.sealing running m what now left
 
+-- ---- a station
+
+opens_rest : (c : Option StationCall) (link : ℕ) (work : StationWork) (left : List (List ℕ)) → IsRest (left_by (station_opens c link work left)) left
+opens_rest (Some c) link work left = IsRest-refl left
+opens_rest None link work [] = IsRest-refl []
+opens_rest None link work (client ∷ left) = record { front = client ∷ []; is = refl }
+
+station_piece_rest : (own : Bool) (piece : List ℕ) (link : LinkState StationTalk) (work : StationWork) (left : List (List ℕ)) → IsRest (left_by (station_piece own piece link work left)) left
+station_piece_rest false piece link work left = IsRest-refl left
+station_piece_rest true piece link work left =
+    let cut : Cut = cut_stream (link.rest ++ piece) in
+    then_part-rest (served_cut station_server cut work link.talk left) (after_stream cut.rest) left (λ served rest. IsRest-refl rest)
+    (units_served.rest station_server cut work link.talk left station_leaves)
+
+station_close_rest : (own : Bool) (link : LinkState StationTalk) (work : StationWork) (left : List (List ℕ)) → IsRest (left_by (station_close own link work left)) left
+station_close_rest false link work left = IsRest-refl left
+station_close_rest true link work left = IsRest-refl left
+
+station_event_rest : (what : Event) (standing : StationLink) (work : StationWork) (left : List (List ℕ)) → IsRest (left_by (station_event what standing work left)) left
+station_event_rest (event.Opened link) station_link.Idle work left = IsRest-refl left
+station_event_rest (event.Opened link) (station_link.Dialling c) work left = IsRest-refl left
+station_event_rest (event.Opened link) (station_link.On own) work left = station_close_rest (link == own.talk.link) own work left
+station_event_rest (event.Bytes link piece) station_link.Idle work left = IsRest-refl left
+station_event_rest (event.Bytes link piece) (station_link.Dialling c) work left = IsRest-refl left
+station_event_rest (event.Bytes link piece) (station_link.On own) work left = station_piece_rest (link == own.talk.link) piece own work left
+station_event_rest (event.Closed link) station_link.Idle work left = IsRest-refl left
+station_event_rest (event.Closed link) (station_link.Dialling c) work left = IsRest-refl left
+station_event_rest (event.Closed link) (station_link.On own) work left = station_close_rest (link == own.talk.link) own work left
+station_event_rest (event.Dialled link) station_link.Idle work left = IsRest-refl left
+station_event_rest (event.Dialled link) (station_link.Dialling c) work left = opens_rest c link work left
+station_event_rest (event.Dialled link) (station_link.On own) work left = IsRest-refl left
+station_event_rest event.DialFailed station_link.Idle work left = IsRest-refl left
+station_event_rest event.DialFailed (station_link.Dialling c) work left = IsRest-refl left
+station_event_rest event.DialFailed (station_link.On own) work left = IsRest-refl left
+station_event_rest event.Stop station_link.Idle work left = IsRest-refl left
+station_event_rest event.Stop (station_link.Dialling c) work left = IsRest-refl left
+station_event_rest event.Stop (station_link.On own) work left = IsRest-refl left
+
+station_part_rest : (t : StationState) (left : List (List ℕ)) (part : Result (Part StationAfter) StepRefused) → IsRest (left_by part) left →
+    IsRest (step_by actions_after state_after (station_halted t) left part).left left
+station_part_rest t left (Err why) rest = IsRest-nothing left
+station_part_rest t left (Ok part) rest = rest
+
+station_outcome_rest : (outcome : Option StationOutcome) (running : StationRunning) (t : StationState) (what : Event) (now : ℕ) (left : List (List ℕ)) →
+    IsRest (station_by_outcome outcome running t what now left).left left
+station_outcome_rest (Some outcome) running t what now left = IsRest-refl left
+station_outcome_rest None running t what now left =
+    station_part_rest t left (station_event what running.standing (station_work running.task now) left) (station_event_rest what running.standing (station_work running.task now) left)
+
+pub station_rest : (running : Option StationRunning) (t : StationState) (what : Event) (now : ℕ) (left : List (List ℕ)) → IsRest (station_by_running running t what now left).left left
+station_rest None t what now left = IsRest-refl left
+station_rest (Some running) t what now left = station_outcome_rest t.outcome running t what now left
+
 -- ---- any end
 
 pub any_rests : (end : EndId) (what : Event) (now : ℕ) (ends : EndStates) (chances : Drawing) → IsRest (end_step end what now ends chances).chances.left chances.left
 any_rests end what now ends chances =
     end_by (λ (one : EndId) (step : EndStep). IsRest step.chances.left chances.left) what now ends chances (λ one. IsRest-refl chances.left)
     (λ at c is. with_rest c.trusting.sealing c what now chances.left) (λ at m is. member_rest m.running m what now chances.left)
-    (λ at c is. client_leaves_rest c what now chances.left) end
+    (λ at c is. client_leaves_rest c what now chances.left) (λ at t is. station_rest t.running t what now chances.left) end

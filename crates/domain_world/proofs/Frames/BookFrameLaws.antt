@@ -44,8 +44,8 @@ module _ (Holds : Book → Type 0)
 
   pub book_holds : (plan : Plan) (moves : List Move) → Holds blank → Holds (past plan moves).book
   book_holds plan moves holds =
-      let after : HoldsAfterMoves ⊥ OfBook plan moves = moves_keep ⊥ OfBook book_keeps plan moves (λ none. absurd none) (λ on. holds) in after.holds
+      let after : HoldsAfterMoves ⊥ OfBook plan moves = moves_keep ⊥ OfBook book_keeps (λ n at station plan s b is holds. holds) plan moves (λ none. absurd none) (λ on. holds) in after.holds
 
   -- a fact of the book holds after a run from any world on
   pub book_stays : (moves : List Move) (w : World) (b : Book) → IsPlaced w.state → Holds b → Holds (book moves w b)
-  book_stays moves w b placed holds = (later_keeps OfBook book_keeps moves w b placed (λ on. holds)).1
+  book_stays moves w b placed holds = (later_keeps OfBook book_keeps (λ n at station plan s b is holds. holds) moves w b placed (λ on. holds)).1

@@ -1,5 +1,5 @@
--- What a step of an end comes to by its kind, where it doesn't matter what a controller does: in every world in which
--- nothing seals, and in one whose controllers ask nobody besides. Whatever holds of each kind of step holds in both.
+-- What a step of an end comes to by its kind, where it doesn't matter what a controller does: in every plain world, and
+-- in one whose controllers ask nobody besides. Whatever holds of each kind of step holds in both.
 -- It serves `Proved.own` and the laws of members' turns.
 use Rattle.std.proofs.Common.{◌≡◌, ℕ, false, List, Some, slice_get, slice_set}
 use Rattle.outside.specs.Machine.{Stepped}

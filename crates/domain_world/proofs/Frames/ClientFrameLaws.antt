@@ -20,17 +20,17 @@ use Rattle.world_moves.specs.declared.state.State.{State}
 use Rattle.world_moves.specs.Ends.{EndStates, EndStep, client_step}
 use Rattle.world_moves.specs.Links.{acceptor_of}
 use Rattle.world_moves.specs.Moving.{changed}
-use Rattle.world_moves.proofs.EndKindLaws.{IfClient, is_controller}
+use Rattle.world_moves.proofs.EndKindLaws.{IfClient}
 use Rattle.domain_world.specs.Past.{Delivery, note_at, note_client, past}
 use Rattle.domain_world.proofs.Messages.MessageOnceLaws.{each_put}
 use Rattle.domain_world.proofs.Frames.EndFrameLaws.{EndFact, IsCalm, KeepsEndsBy, by_calm, every_ends_after}
 use Rattle.domain_world.proofs.Moves.MarkPlaceLaws.{got_map}
 use Rattle.domain_world.proofs.Moves.OpenMadeLaws.{IsAtSide, IsOnSide}
 use Rattle.domain_world.proofs.Frames.EndNoteLaws.{made_so}
-use Rattle.domain_world.proofs.Frames.EveryStepLaws.{act_plain as hear_and_act, dialled_apart, every_noted as noted_by}
+use Rattle.domain_world.proofs.Frames.EveryStepLaws.{act_plain as hear_and_act, dialled_apart, every_noted as noted_by, is_asker}
 use Rattle.domain_world.proofs.Frames.MoveKeepLaws.{every}
 use Rattle.world_moves.proofs.ChangeLaws.{by_change}
-use Rattle.world_moves.specs.Plain.{NothingSeals, plain_end_step as end_step, renewed_plain as renewed}
+use Rattle.world_moves.specs.Plain.{IsPlainPlan, plain_end_step as end_step, renewed_plain as renewed}
 use Rattle.world_moves.proofs.PlainKindLaws.{clients_plain as clients_by, renew_plain_by as renew_by}
 use Rattle.outside.specs.declared.action.Action.{Action}
 
@@ -103,7 +103,7 @@ module _ (plans : List ClientPlan) (Fits : ClientFact) (Made : MadeFact) (keeps 
   calm_meets end links what calm at is = by_calm (λ (one : Event). MeetsClient links at one) (λ link. tt) tt tt what calm
 
   dialled_meets : (end : EndId) (links : List Route) (link : ℕ) → IsOnSide links link true end → Meets end links (event.Dialled link)
-  dialled_meets end links link side at is = subst (λ (one : EndId). IsAtSide links link true one) is (dialled_apart links link end (ap is_controller is) side)
+  dialled_meets end links link side at is = subst (λ (one : EndId). IsAtSide links link true one) is (dialled_apart links link end (ap is_asker is) side)
 
   -- ---- bytes come
 
@@ -184,8 +184,8 @@ module _ (plans : List ClientPlan) (Fits : ClientFact) (Made : MadeFact) (keeps 
     made = made;
   }
 
--- after all moves of a run in which nothing seals
-pub clients_after : (plan : Plan) (moves : List Move) → NothingSeals plan → (Fits : ClientFact) (Made : MadeFact) (keeps : KeepsClients plan.clients Fits Made) → Made [] [] →
+-- after all moves of a run of a plain plan
+pub clients_after : (plan : Plan) (moves : List Move) → IsPlainPlan plan → (Fits : ClientFact) (Made : MadeFact) (keeps : KeepsClients plan.clients Fits Made) → Made [] [] →
     AreKept plan.clients Fits Made keeps (past plan moves).world.state.ends.clients (past plan moves).world.state.links (past plan moves).book.made
 clients_after plan moves nothing Fits Made keeps made =
     (every_ends_after (OfClients plan.clients Fits Made keeps) (of_keeps plan.clients Fits Made keeps) plan moves nothing (λ on. record { same = refl; kept = first_kept plan.clients Fits Made keeps made })).kept

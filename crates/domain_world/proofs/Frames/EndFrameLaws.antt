@@ -21,13 +21,13 @@ use Rattle.world_moves.specs.Links.{acceptor_of}
 use Rattle.world_moves.specs.Moving.{begun, changed, with_link}
 use Rattle.world_moves.specs.World.{World, first_world, happens, run}
 use Rattle.world_moves.specs.Alone.{IsPlainAlone}
-use Rattle.world_moves.specs.Plain.{IsPlain, NothingSeals, plain_world}
+use Rattle.world_moves.specs.Plain.{IsPlain, IsPlainPlan, plain_world}
 use Rattle.domain_world.specs.Claims.Sessions.{restart_of}
 use Rattle.domain_world.specs.Past.{Delivery, book, note, note_given, past}
 use Rattle.domain_world.proofs.Moves.ComingLaws.{CameFrom}
 use Rattle.domain_world.proofs.Frames.AloneFrameLaws.{StandsAlone, later_keeps_alone, moves_keep_alone}
 use Rattle.domain_world.proofs.Frames.MoveFrameLaws.{HoldsAfterMoves, moves_keep}
-use Rattle.domain_world.proofs.Frames.MoveKeepLaws.{How, KeepsMovesBy, alone, any, every, KeepsCalmMovesBy, KeepsMoves, MoveFact, NoSide}
+use Rattle.domain_world.proofs.Frames.MoveKeepLaws.{How, KeepsMovesBy, alone, any, every, KeepsCalmMovesBy, KeepsMoves, MoveFact, NoSide, StationsStart}
 use Rattle.domain_world.proofs.Frames.PlainFrameLaws.{move_keeps_plain, moves_keep_plain}
 use Rattle.domain_world.proofs.Moves.PlacedLaws.{IsPlaced}
 
@@ -178,14 +178,14 @@ module _ (Holds : EndFact) (keeps : KeepsEnds Holds) where
       Holds (run moves w).moves None (ends_in (run moves w).state) [] (book moves w b)
   ends_later moves w b stands holds = (later_keeps_alone (OfMoves Holds) (ends_keep ⊥) moves w b stands holds).1
 
--- in any run
-pub any_ends_after : (Holds : EndFact) → KeepsEndsBy any Holds → (plan : Plan) (moves : List Move) → ((on : Option Delivery) → Holds 0 on (ends_in (first_world plan).state) [] blank) →
+-- in any run, where the fact holds on besides as a station begins
+pub any_ends_after : (Holds : EndFact) → KeepsEndsBy any Holds → StationsStart (OfMoves Holds) → (plan : Plan) (moves : List Move) → ((on : Option Delivery) → Holds 0 on (ends_in (first_world plan).state) [] blank) →
     Holds (past plan moves).world.moves None (ends_in (past plan moves).world.state) [] (past plan moves).book
-any_ends_after Holds keeps plan moves holds =
-    let after : HoldsAfterMoves ⊥ (OfMoves Holds) plan moves = moves_keep ⊥ (OfMoves Holds) (ends_keep_by any Holds keeps ⊥) plan moves (λ none. absurd none) holds in after.holds
+any_ends_after Holds keeps starts plan moves holds =
+    let after : HoldsAfterMoves ⊥ (OfMoves Holds) plan moves = moves_keep ⊥ (OfMoves Holds) (ends_keep_by any Holds keeps ⊥) starts plan moves (λ none. absurd none) holds in after.holds
 
--- in every run in which nothing seals, whether controllers ask others or not
-pub every_ends_after : (Holds : EndFact) → KeepsEndsBy every Holds → (plan : Plan) (moves : List Move) → NothingSeals plan → ((on : Option Delivery) → Holds 0 on (ends_in (plain_world plan).state) [] blank) →
+-- in every run of a plain plan, whether controllers ask others or not
+pub every_ends_after : (Holds : EndFact) → KeepsEndsBy every Holds → (plan : Plan) (moves : List Move) → IsPlainPlan plan → ((on : Option Delivery) → Holds 0 on (ends_in (plain_world plan).state) [] blank) →
     Holds (past plan moves).world.moves None (ends_in (past plan moves).world.state) [] (past plan moves).book
 every_ends_after Holds keeps plan moves nothing holds =
     let after : HoldsAfterMoves ⊥ (OfMoves Holds) plan moves = moves_keep_plain ⊥ (OfMoves Holds) (ends_keep_by every Holds keeps ⊥) plan moves nothing (λ none. absurd none) holds in after.holds

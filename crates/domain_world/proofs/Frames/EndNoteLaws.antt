@@ -13,7 +13,7 @@ use Rattle.step_notes.specs.ControllerNotes.{Answered}
 use Rattle.step_notes.specs.MemberNotes.{turn_units}
 use Rattle.step_notes.specs.Records.{Book, ChannelAccepted, Judging, MessageMade, MessageTaken, OfMember}
 use Rattle.world_moves.specs.declared.links.EndId.{EndId}
-use Rattle.world_moves.specs.declared.links.EndId.TheVariants.{Controller, Member, Client}
+use Rattle.world_moves.specs.declared.links.EndId.TheVariants.{Controller, Member, Client, Station}
 use Rattle.world_moves.specs.declared.state.State.{State}
 use Rattle.world_moves.specs.Ends.{EndStep, client_done, client_step, controller_done, member_done, no_step}
 use Rattle.world_moves.specs.Acting.{done, heard_by}
@@ -52,6 +52,7 @@ module _ (P : EndId → EndStep → Book → Type 0) (w : Delivery) (piece : Lis
   noted_by (Controller at) = controller_noted (slice_get s.ends.controllers at) at refl
   noted_by (Member at) = member_noted (slice_get s.ends.members at) at refl
   noted_by (Client at) = client_noted (slice_get s.ends.clients at) at refl
+  noted_by (Station at) = none (Station at)
 
 -- a fact of the book alone, by the end that hears
 pub book_by : (P : EndId → Book → Type 0) (w : Delivery) (piece : List ℕ) (s after : State) (b : Book) → ((end : EndId) → P end b) →

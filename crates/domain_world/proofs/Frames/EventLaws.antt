@@ -4,10 +4,10 @@ use Rattle.std.proofs.Common.{ℕ}
 use Rattle.outside.specs.declared.event.Event.{Event}
 use Rattle.outside.specs.declared.event.Event.TheVariants as event
 use Rattle.domain_world.proofs.Frames.EndFrameLaws.{IsCalm, by_calm}
-use Rattle.domain_world.proofs.Frames.FrameLaws.{IsQuiet}
+use Rattle.domain_world.proofs.Frames.FrameLaws.{BringsNothing}
 use Rattle.domain_world.proofs.Moves.NoBytesLaws.{IsNoBytes}
 
-pub by_quiet : (P : Event → Type 0) → ((link : ℕ) → P (event.Closed link)) → ((link : ℕ) → P (event.Dialled link)) → P event.DialFailed → P event.Stop → (what : Event) → IsQuiet what → P what
+pub by_quiet : (P : Event → Type 0) → ((link : ℕ) → P (event.Closed link)) → ((link : ℕ) → P (event.Dialled link)) → P event.DialFailed → P event.Stop → (what : Event) → BringsNothing what → P what
 by_quiet P closed dialled fails stops (event.Bytes link piece) quiet = absurd quiet
 by_quiet P closed dialled fails stops (event.Opened link) quiet = absurd quiet
 by_quiet P closed dialled fails stops (event.Closed link) quiet = closed link
@@ -15,7 +15,7 @@ by_quiet P closed dialled fails stops (event.Dialled link) quiet = dialled link
 by_quiet P closed dialled fails stops event.DialFailed quiet = fails
 by_quiet P closed dialled fails stops event.Stop quiet = stops
 
-pub quiet_no_bytes : (what : Event) → IsQuiet what → IsNoBytes what
+pub quiet_no_bytes : (what : Event) → BringsNothing what → IsNoBytes what
 quiet_no_bytes = by_quiet IsNoBytes (λ link. tt) (λ link. tt) tt tt
 
 pub calm_no_bytes : (what : Event) → IsCalm what → IsNoBytes what

@@ -1,4 +1,4 @@
--- What holds of each unit of the bag and its mark, through all moves of every run in which nothing seals, whether its
+-- What holds of each unit of the bag and its mark, through all moves of every run of a plain plan, whether its
 -- controllers ask others or not: whatever holds where an end makes a unit for a mark, and goes on holding as more is
 -- written down. It is an instance of `MoveFrameLaws`, as `BagFrameLaws` is of runs whose controllers ask nobody.
 -- It serves `Proved.ways` and `Proved.opened`.
@@ -24,7 +24,7 @@ use Rattle.world_moves.specs.declared.state.State.{State}
 use Rattle.world_moves.specs.Acting.{AfterHearing, Given, heard_by}
 use Rattle.world_moves.specs.Bag.{settle_at, settled}
 use Rattle.world_moves.specs.Ends.{EndStep, client_step}
-use Rattle.world_moves.specs.Plain.{NothingSeals, plain_controller_step as controller_step, plain_member_step as member_step}
+use Rattle.world_moves.specs.Plain.{IsPlainPlan, plain_controller_step as controller_step, plain_member_step as member_step}
 use Rattle.domain_world.specs.Past.{Delivery, beside_mark, heard_marks, marks_of, note_at, note_client, note_controller, note_given, note_member, note_messages, past, sent_at}
 use Rattle.wire_base.proofs.ListLaws.{got_nothing}
 use Rattle.world_moves.proofs.LinkFrameLaws.{IsOnLink, StaysOnLinks, actions_stay, quiet_stays}
@@ -205,8 +205,8 @@ module _ {X : Type 0} (part : Book → X) (P : UnitFact X) (Side : MoveFact) (st
 pub first_marks : {X : Type 0} (P : UnitFact X) (x : X) (on : Option Delivery) → EachHasMark P on None [] [] x []
 first_marks P x on = record { each = λ number one there. absurd (got_nothing number one there); all = all_on on [] [] [] refl }
 
--- `P` holds of each unit and its mark after every run in which nothing seals, where it rests on nothing else
-pub every_marked : {X : Type 0} (part : Book → X) (P : UnitFact X) → EveryMarks part P NoSide → (plan : Plan) (moves : List Move) → NothingSeals plan →
+-- `P` holds of each unit and its mark after every run of a plain plan, where it rests on nothing else
+pub every_marked : {X : Type 0} (part : Book → X) (P : UnitFact X) → EveryMarks part P NoSide → (plan : Plan) (moves : List Move) → IsPlainPlan plan →
     OfEachUnit P (part (past plan moves).book) (past plan moves).world.state.bag (past plan moves).book.sent
 every_marked part P stays plan moves nothing =
     let after : HoldsAfterMoves ⊥ (OfMarks part P) plan moves =

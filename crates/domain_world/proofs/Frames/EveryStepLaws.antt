@@ -1,6 +1,5 @@
--- What a step of an end, and what is written down of bytes, comes to in every world in which nothing seals, whether its
--- controllers ask others or not: it leaves a rest of the challenges that were left, and ends of one kind leave those of
--- the others.
+-- What a step of an end, and what is written down of bytes, comes to in every plain world, whether its controllers ask
+-- others or not: it leaves a rest of the challenges that were left, and ends of one kind leave those of the others.
 -- It serves `draws_of_runs_differ`, `Proved.let_in`, `Proved.messages` and others that look at no controller.
 use Rattle.std.proofs.Common.{◌≡◌, ℕ, Bool, true, false, List, [], ◌++◌, Option, Some, None, Ok, Err, slice_get, refl, sym, subst, append-nil}
 use Rattle.wire_base.specs.Maps.{lookup, same_number, take_out}
@@ -33,9 +32,9 @@ use Rattle.step_notes.specs.MemberNotes.{turn_units}
 use Rattle.step_notes.specs.Records.{Book, OfMember}
 use Rattle.step_notes.proofs.Members.RestLaws.{client_leaves_rest, member_leaves}
 use Rattle.world_moves.specs.declared.links.EndId.{EndId}
-use Rattle.world_moves.specs.declared.links.EndId.TheVariants.{Controller, Member, Client}
+use Rattle.world_moves.specs.declared.links.EndId.TheVariants.{Controller, Member, Client, Station}
 use Rattle.world_moves.specs.declared.links.Route.{Route}
-use Rattle.world_moves.specs.declared.links.Route.TheVariants.{ToMember, ToController, Between, Stranger}
+use Rattle.world_moves.specs.declared.links.Route.TheVariants.{ToMember, ToController, Between, Stranger, FromStation}
 use Rattle.world_moves.specs.declared.state.State.{State}
 use Rattle.world_moves.specs.Acting.{Acted, done, heard_by}
 use Rattle.world_moves.specs.Ends.{EndStates, EndStep, client_done, client_step, controller_done, member_done, no_step}
@@ -138,6 +137,7 @@ module _ (P : EndId → EndStep → Book → Type 0) (w : Delivery) (piece : Lis
   every_noted (Controller at) = controller_noted (slice_get s.ends.controllers at) at refl
   every_noted (Member at) = member_noted (slice_get s.ends.members at) at refl
   every_noted (Client at) = client_noted (slice_get s.ends.clients at) at refl
+  every_noted (Station at) = none (Station at)
 
 -- a fact of the book alone, by the end that hears
 pub every_book : (P : EndId → Book → Type 0) (w : Delivery) (piece : List ℕ) (s after : State) (b : Book) → ((end : EndId) → P end b) →
@@ -196,13 +196,24 @@ every_acted P w piece s b none controllers members clients end =
 
 -- ---- a link that a member or a client dialled is between no controllers
 
-apart_by : (route : Route) (end : EndId) → is_controller end ≡ false → dialler_of route ≡ Some end → IsApart route
+-- the end is a member or a client
+abbrev pub is_asker : EndId → Bool
+is_asker (Member at) = true
+is_asker (Client at) = true
+is_asker _ = false
+
+apart_by : (route : Route) (end : EndId) → is_asker end ≡ true → dialler_of route ≡ Some end → IsApart route
 apart_by (ToMember client member) end other is = tt
 apart_by (ToController member controller) end other is = tt
-apart_by (Between from to) (Controller at) other is = absurd (let never : true ≡ false = other in cc)
+apart_by (Between from to) (Controller at) other is = absurd (let never : false ≡ true = other in cc)
 apart_by (Between from to) (Member at) other is = absurd cc
 apart_by (Between from to) (Client at) other is = absurd cc
+apart_by (Between from to) (Station at) other is = absurd cc
+apart_by (FromStation station controller) (Controller at) other is = absurd cc
+apart_by (FromStation station controller) (Member at) other is = absurd cc
+apart_by (FromStation station controller) (Client at) other is = absurd cc
+apart_by (FromStation station controller) (Station at) other is = absurd (let never : false ≡ true = other in cc)
 apart_by (Stranger to) end other is = tt
 
-pub dialled_apart : (links : List Route) (link : ℕ) (end : EndId) → is_controller end ≡ false → IsOnSide links link true end → IsAtSide links link true end
+pub dialled_apart : (links : List Route) (link : ℕ) (end : EndId) → is_asker end ≡ true → IsOnSide links link true end → IsAtSide links link true end
 dialled_apart links link end other on = record { route = on.route; made = on.made; side = on.side; apart = apart_by on.route end other on.side }

@@ -54,19 +54,19 @@ PlannedFact = List ClientPlan → Fact
 abbrev pub HoldsByPlans : PlannedFact → State → Type 0
 HoldsByPlans Fits s = HoldsIn (Fits s.client_plans) s
 
--- no bytes come, and no link opens
-abbrev pub IsQuiet : Event → Type 0
-IsQuiet (event.Bytes link piece) = ⊥
-IsQuiet (event.Opened link) = ⊥
-IsQuiet (event.Closed link) = Unit {0}
-IsQuiet (event.Dialled link) = Unit {0}
-IsQuiet event.DialFailed = Unit {0}
-IsQuiet event.Stop = Unit {0}
+-- the event brings an end no bytes and no link
+abbrev pub BringsNothing : Event → Type 0
+BringsNothing (event.Bytes link piece) = ⊥
+BringsNothing (event.Opened link) = ⊥
+BringsNothing (event.Closed link) = Unit {0}
+BringsNothing (event.Dialled link) = Unit {0}
+BringsNothing event.DialFailed = Unit {0}
+BringsNothing event.Stop = Unit {0}
 
--- A fact of ends holds on where one hears what `IsQuiet` allows, where a link is made and the end that accepts it hears
--- of that, where an end is made anew, and where a member begins to change its secret.
+-- A fact of ends holds on where one hears an event that `BringsNothing`, where a link is made and the end that accepts
+-- it hears of that, where an end is made anew, and where a member begins to change its secret.
 pub record Stays (Fits : Fact) : Type 0 where
-  pub hears : (end : EndId) (what : Event) (now : ℕ) (ends : EndStates) (chances : Drawing) (links : List Route) → IsQuiet what → Fits ends chances links →
+  pub hears : (end : EndId) (what : Event) (now : ℕ) (ends : EndStates) (chances : Drawing) (links : List Route) → BringsNothing what → Fits ends chances links →
       HoldsAfter Fits (end_step end what now ends chances) links
   pub opens : (route : Route) (now : ℕ) (ends : EndStates) (chances : Drawing) (links : List Route) → Fits ends chances links →
       HoldsAfter Fits (end_step (acceptor_of route) (event.Opened (length links)) now ends chances) (links ++ route ∷ [])
@@ -82,7 +82,7 @@ pub record Stays (Fits : Fact) : Type 0 where
 
 -- `Stays`, where a client is made from a plan that it is to have.
 pub record StaysByPlans (Fits : PlannedFact) : Type 0 where
-  pub hears : (end : EndId) (what : Event) (now : ℕ) (plans : List ClientPlan) (ends : EndStates) (chances : Drawing) (links : List Route) → IsQuiet what → Fits plans ends chances links →
+  pub hears : (end : EndId) (what : Event) (now : ℕ) (plans : List ClientPlan) (ends : EndStates) (chances : Drawing) (links : List Route) → BringsNothing what → Fits plans ends chances links →
       HoldsAfter (Fits plans) (end_step end what now ends chances) links
   pub opens : (route : Route) (now : ℕ) (plans : List ClientPlan) (ends : EndStates) (chances : Drawing) (links : List Route) → Fits plans ends chances links →
       HoldsAfter (Fits plans) (end_step (acceptor_of route) (event.Opened (length links)) now ends chances) (links ++ route ∷ [])
@@ -120,8 +120,8 @@ module _ (Fits : PlannedFact) (stays : StaysByPlans Fits) where
       by_change (λ (ends : EndStates) (actions : List Action). Fits s.client_plans ends s.chances s.links) at secret s.ends holds
       (λ running is none. stays.changes secret running at s.client_plans s.ends s.chances s.links is none holds)
 
-pub calm_quiet : (what : Event) → IsCalm what → IsQuiet what
-calm_quiet = by_calm IsQuiet (λ link. tt) tt tt
+pub calm_quiet : (what : Event) → IsCalm what → BringsNothing what
+calm_quiet = by_calm BringsNothing (λ link. tt) tt tt
 
 -- ---- with what is written down
 

@@ -29,10 +29,10 @@ use Rattle.domain_world.proofs.Frames.EndNoteLaws.{OfMembers, noted_by}
 use Rattle.domain_world.proofs.Frames.EndFrameLaws.{EndFact, KeepsEndsBy, every_ends_after}
 use Rattle.domain_world.proofs.Frames.EveryStepLaws.{act_plain as hear_and_act, every_draws, every_noted}
 use Rattle.domain_world.proofs.Frames.MoveKeepLaws.{every}
-use Rattle.domain_world.proofs.Frames.FrameLaws.{calm_quiet, Fact, HoldsAfter, HoldsIn, IsQuiet, StaysWritten}
+use Rattle.domain_world.proofs.Frames.FrameLaws.{calm_quiet, Fact, HoldsAfter, HoldsIn, BringsNothing, StaysWritten}
 use Rattle.domain_world.proofs.Moves.LeftLaws.{DrawsOn, end_draws}
 use Rattle.world_moves.proofs.ChangeLaws.{by_change, member_begun}
-use Rattle.world_moves.specs.Plain.{NothingSeals, hear_plain as hear, plain_world}
+use Rattle.world_moves.specs.Plain.{IsPlainPlan, hear_plain as hear, plain_world}
 use Rattle.world_moves.proofs.PlainKindLaws.{plain_by as every_by, renew_plain_by as renew_by}
 use Rattle.member_server.specs.declared.state.Running.{Running}
 
@@ -52,7 +52,7 @@ pub record KeepsMembers {X : Type 0} (part : Book → X) (Fits : X → MembersFa
   -- others draw
   pub draws : (x : X) (members : List MemberState) (chances later : Drawing) (links : List Route) → DrawsOn chances later → Fits x members chances links → Fits x members later links
   -- a member takes a step at which no bytes come and no link opens
-  pub hears : (x : X) (m : MemberState) (at : ℕ) (what : Event) (now : ℕ) (members : List MemberState) (chances : Drawing) (links : List Route) → IsQuiet what →
+  pub hears : (x : X) (m : MemberState) (at : ℕ) (what : Event) (now : ℕ) (members : List MemberState) (chances : Drawing) (links : List Route) → BringsNothing what →
       slice_get members at ≡ Some m → Fits x members chances links → MemberStepped (Fits x) m at what now members chances links
   -- a link is made, which another end accepts, or a member
   pub opens : (x : X) (route : Route) (members : List MemberState) (chances : Drawing) (links : List Route) → Fits x members chances links → Fits x members chances (links ++ route ∷ [])
@@ -74,7 +74,7 @@ module _ {X : Type 0} (part : Book → X) (Fits : X → MembersFact) (keeps : Ke
   abbrev pub AmongMembers : X → Fact
   AmongMembers x ends chances links = Fits x ends.members chances links
 
-  hear_keeps : (x : X) (end : EndId) (what : Event) (now : ℕ) (ends : EndStates) (chances : Drawing) (links : List Route) → IsQuiet what → Fits x ends.members chances links →
+  hear_keeps : (x : X) (end : EndId) (what : Event) (now : ℕ) (ends : EndStates) (chances : Drawing) (links : List Route) → BringsNothing what → Fits x ends.members chances links →
       HoldsAfter (AmongMembers x) (end_step end what now ends chances) links
   hear_keeps x end what now ends chances links quiet fits =
       step_by (λ (one : EndId) (step : EndStep). DrawsOn chances step.chances → Fits x step.ends.members step.chances links) what now ends chances (λ one draws. fits)
@@ -125,7 +125,7 @@ module _ {X : Type 0} (part : Book → X) (Fits : X → MembersFact) (keeps : Ke
   abbrev OfEvery : EndFact
   OfEvery at on now given b = Fits (part b) now.ends.members now.chances now.links
 
-  every_hears : (x : X) (end : EndId) (what : Event) (s : State) → IsQuiet what → Fits x s.ends.members s.chances s.links →
+  every_hears : (x : X) (end : EndId) (what : Event) (s : State) → BringsNothing what → Fits x s.ends.members s.chances s.links →
       Fits x (hear end what s).state.ends.members (hear end what s).state.chances s.links
   every_hears x end what s quiet fits =
       every_by (λ (one : EndId) (step : EndStep). DrawsOn s.chances step.chances → Fits x step.ends.members step.chances s.links) what s.moment s.ends s.chances (λ one draws. fits)
@@ -167,7 +167,7 @@ module _ {X : Type 0} (part : Book → X) (Fits : X → MembersFact) (keeps : Ke
     over = λ at on next s given b fits. subst (λ (x : X). Fits x s.ends.members s.chances s.links) (sym (keeps.given at given s b)) fits;
   }
 
-  -- in every run in which nothing seals
-  pub members_after : (plan : Plan) (moves : List Move) → NothingSeals plan → Fits (part blank) (plain_world plan).state.ends.members (plain_world plan).state.chances (plain_world plan).state.links →
+  -- in every run of a plain plan
+  pub members_after : (plan : Plan) (moves : List Move) → IsPlainPlan plan → Fits (part blank) (plain_world plan).state.ends.members (plain_world plan).state.chances (plain_world plan).state.links →
       Fits (part (past plan moves).book) (past plan moves).world.state.ends.members (past plan moves).world.state.chances (past plan moves).world.state.links
   members_after plan moves nothing fits = every_ends_after OfEvery every_keeps plan moves nothing (λ on. fits)

@@ -3,7 +3,7 @@
 -- it, each with less to be shown. It serves `drive`, `schedules_are_heard`, `Proved.own`, and all other laws of every
 -- run.
 use Rattle.std.proofs.Common.{◌≡◌, ℕ, suc, ◌+◌, ◌*◌, ◌≤◌, Bool, true, false, List, [], ◌∷◌, ◌++◌, drop, length, inl, inr, Option, Some, None, IsSome, slice_get, refl, sym, ap, subst, ◌∙◌, arith, length-append}
-use Rattle.std.specs.Prelude.{◌%◌}
+use Rattle.std.specs.Prelude.{◌%◌, ◌-◌}
 use Rattle.std.specs.List.{AllByRecursion}
 use Rattle.std.proofs.lemmas.List.{append_assoc, append-nil}
 use Rattle.wire_base.specs.Maps.{lookup, same_number, take_out}
@@ -16,7 +16,7 @@ use Rattle.wire_base.specs.Lists.{OneOf}
 use Rattle.step_notes.specs.Records.{Book, InUnit, Outside, blank}
 use Rattle.world_moves.specs.declared.bag.BagUnit.{BagUnit}
 use Rattle.world_moves.specs.declared.links.EndId.{EndId}
-use Rattle.world_moves.specs.declared.links.EndId.TheVariants.{Client, Member}
+use Rattle.world_moves.specs.declared.links.EndId.TheVariants.{Client, Member, Station}
 use Rattle.world_moves.specs.declared.links.OpenLink.{OpenLink}
 use Rattle.world_moves.specs.declared.links.Route.{Route}
 use Rattle.world_moves.specs.declared.links.Route.TheVariants.{Stranger}
@@ -28,9 +28,9 @@ use Rattle.world_moves.specs.declared.state.WaitingDial.{WaitingDial}
 use Rattle.world_moves.specs.Acting.{Acted, Given, AfterHearing, close_open, closed_at, done, forget, given_by, hear, hear_and_act, hear_and_act_if, link_closed, nothing_done, perform, perform_all, perform_all_quietly, perform_by, perform_quietly, piece_comes, pieces_come, shut_link, then_act}
 use Rattle.world_moves.specs.Bag.{first_waiting, pieces_of}
 use Rattle.world_moves.specs.Choosing.{chosen_in, chosen_place}
-use Rattle.world_moves.specs.Ends.{acceptors_in, count_of, end_at}
+use Rattle.world_moves.specs.Ends.{acceptors_in, count_of, end_at, starters_in}
 use Rattle.world_moves.specs.Links.{accepted, acceptor_of, answered, dialler_of, handed_links, hearer_of, hearer_on, links_of, other_hearer}
-use Rattle.world_moves.specs.Moving.{act, answer_by, answered_link, begun, change_at, changed, come_by, come_on_own, connect_by, connect_first, deliver_by, deliver_on, deliver_unit, end_of_peer, fail_first, hand_on, lose_by, onward_by, open_link, renewed, restart_at, restart_by, route_to, settle, shut_at, shut_by, start_at, start_by, stranger_at, stranger_by, tick, with_link, without_first}
+use Rattle.world_moves.specs.Moving.{act, answer_by, answered_link, begun, change_at, changed, come_by, come_on_own, connect_by, connect_first, deliver_by, deliver_on, deliver_unit, end_of_peer, fail_first, hand_on, lose_by, onward_by, open_link, renewed, restart_at, restart_by, route_to, settle, shut_at, shut_by, start_at, start_by, start_station_by, station_begun, stranger_at, stranger_by, tick, with_link, without_first}
 use Rattle.world_moves.specs.World.{World, first_world, happens, run}
 use Rattle.domain_world.specs.Claims.Sessions.{end_by, restart_of}
 use Rattle.domain_world.specs.Past.{Delivery, book, note, note_at, note_chosen, note_coming, note_deliver, note_hand, note_on, note_onward, note_own, note_pieces, note_unit, past}
@@ -42,9 +42,10 @@ use Rattle.world_moves.proofs.LinkFrameLaws.{LinkFact, StaysOnLinks, closed_stay
 use Rattle.world_moves.proofs.OpenLaws.{forgotten_fewer, put_more, taken_fewer, taken_one}
 use Rattle.world_moves.proofs.QuietLaws.{closes_alone}
 use Rattle.domain_world.proofs.Moves.ComingLaws.{CameFrom, IsFromOutside, IsLinkOf, chosen_of, handed_outside, kept_same, piece_bytes, route_dials, run_still}
-use Rattle.domain_world.proofs.Frames.MoveKeepLaws.{AtWork, IsHeard, KeepsCalmMovesBy, KeepsMovesBy, MoveFact, NoSide, Progress, any, but_renewed, coming, started, waiting, with_rest}
+use Rattle.domain_world.proofs.Frames.MoveKeepLaws.{AtWork, IsHeard, KeepsCalmMovesBy, KeepsMovesBy, MoveFact, NoSide, Progress, StationsStart, any, but_renewed, coming, started, waiting, with_rest}
 use Rattle.domain_world.proofs.Moves.OpenMadeLaws.{IsOnSide, hears_side}
 use Rattle.domain_world.proofs.Moves.PlacedLaws.{Placed, IsPlaced, placed_stay, Since, since_sent, HandsBytes, IsBytesBag, bag_before, settled_bag, settled_link, same_piece, HasBytes, bytes_in}
+use Rattle.interactive_station.specs.declared.plan.StationPlan.{StationPlan}
 
 -- ---- how many links are open
 
@@ -64,7 +65,7 @@ none_dialled (dial ∷ dials) none = absurd (let x = none in cc)
 
 -- ---- a part of a move
 
-module _ (Known : Type 0) (Holds : MoveFact) (keeps : KeepsCalmMovesBy any Known NoSide Holds) where
+module _ (Known : Type 0) (Holds : MoveFact) (keeps : KeepsCalmMovesBy any Known NoSide Holds) (starts : StationsStart Holds) where
   -- `Holds` is so after an action, and no more steps were taken than are allowed; a link that is open allows two
   record After (p : Progress) (most : ℕ) (acted : Acted) (given : Given) (b : Book) : Type 0 where
     steps : ℕ
@@ -154,9 +155,20 @@ module _ (Known : Type 0) (Holds : MoveFact) (keeps : KeepsCalmMovesBy any Known
   abbrev Quietly : ℕ → ℕ → Acted → Given → Book → Type 0
   Quietly at most acted given b = After (waiting at None) most acted given b
 
+  station_by_part : (plan : Option StationPlan) (station n at : ℕ) (s : State) (b : Book) → slice_get s.station_plans station ≡ plan → Holds n (waiting at None) s [] b →
+      Quietly at (n + 1 + 2 * length s.open_links) (start_station_by plan station s) [] b
+  station_by_part None station n at s b is holds = nothing (waiting at None) (n + 1 + 2 * length s.open_links) n s [] b holds (omega arith)
+  station_by_part (Some plan) station n at s b is holds =
+      let before : State = forget (Station station) s in
+      widen (waiting at None) (n + 1 + 2 * length before.open_links) (n + 1 + 2 * length s.open_links) (done (Station station) (station_begun station plan before)) [] b
+      (omega (arith, forgotten_fewer (Station station) s.open_links))
+      (done_part (waiting at None) tt n (Station station) (station_begun station plan before) [] b
+      (starts n at station plan s b is (keeps.forgets n at (Station station) s b tt holds)))
+
   start_by_part : (plan : Option ClientPlan) (client n at : ℕ) (s : State) (b : Book) → slice_get s.client_plans client ≡ plan → Holds n (waiting at None) s [] b →
       Quietly at (n + 1 + 2 * length s.open_links) (start_by plan client s) [] b
-  start_by_part None client n at s b is holds = nothing (waiting at None) (n + 1 + 2 * length s.open_links) n s [] b holds (omega arith)
+  start_by_part None client n at s b is holds =
+      station_by_part (slice_get s.station_plans (client - length s.client_plans)) (client - length s.client_plans) n at s b refl holds
   start_by_part (Some plan) client n at s b is holds =
       let before : State = forget (Client client) s in
       widen (waiting at None) (n + 1 + 2 * length before.open_links) (n + 1 + 2 * length s.open_links) (done (Client client) (begun client plan before)) [] b
@@ -420,7 +432,7 @@ module _ (Known : Type 0) (Holds : MoveFact) (keeps : KeepsCalmMovesBy any Known
   act_part (move.Hand link back piece) n at s b placed have handed anew holds =
       hand_part (chosen_in link (handed_links s.links)) back piece n at s b (λ there is. handed_outside s.links (link % length (handed_links s.links)) there is) placed handed holds
   act_part (move.Start number) n at s b placed have handed anew holds =
-      quiet_part (move.Start number) (n + 1 + 2 * length s.open_links) n at s b placed (omega arith) (start_part (chosen_place number (length s.ends.clients)) n at s b (holds None))
+      quiet_part (move.Start number) (n + 1 + 2 * length s.open_links) n at s b placed (omega arith) (start_part (chosen_place number (starters_in s.ends)) n at s b (holds None))
   act_part (move.Stranger number) n at s b placed have handed anew holds =
       quiet_part (move.Stranger number) (n + 3 + 2 * length s.open_links) n at s b placed (omega arith) (stranger_part (chosen_place number (acceptors_in s.ends)) n at s b (holds None))
   act_part move.Connect n at s b placed have handed anew holds =
@@ -441,25 +453,25 @@ module _ (Known : Type 0) (Holds : MoveFact) (keeps : KeepsCalmMovesBy any Known
 
 -- ---- a run
 
-module _ (Known : Type 0) (Holds : MoveFact) (keeps : KeepsMovesBy any Known NoSide Holds) where
+module _ (Known : Type 0) (Holds : MoveFact) (keeps : KeepsMovesBy any Known NoSide Holds) (starts : StationsStart Holds) where
   abbrev Calm : KeepsCalmMovesBy any Known NoSide Holds
   Calm = but_renewed Known Holds keeps
 
   -- a move, at which an end may be made anew
-  any_part : (what : Move) (n at : ℕ) (s : State) (b : Book) → IsPlaced s → (Known → IsBytesBag s.bag) → (Known → HandsBytes what) → HoldsFor Known Holds Calm n at s b →
-      Moved Known Holds Calm n at s (act s what) (note_coming what at s b)
-  any_part what n at s b placed have handed holds = act_part Known Holds Calm what n at s b placed have handed (λ end is. keeps.renews n at end s b tt (holds None)) holds
+  any_part : (what : Move) (n at : ℕ) (s : State) (b : Book) → IsPlaced s → (Known → IsBytesBag s.bag) → (Known → HandsBytes what) → HoldsFor Known Holds Calm starts n at s b →
+      Moved Known Holds Calm starts n at s (act s what) (note_coming what at s b)
+  any_part what n at s b placed have handed holds = act_part Known Holds Calm starts what n at s b placed have handed (λ end is. keeps.renews n at end s b tt (holds None)) holds
 
   record Ran (n : ℕ) (moves : List Move) (w : World) (b : Book) : Type 0 where
     steps : ℕ
-    holds : HoldsFor Known Holds Calm steps (run moves w).moves (run moves w).state (book moves w b)
+    holds : HoldsFor Known Holds Calm starts steps (run moves w).moves (run moves w).state (book moves w b)
     few : Known → steps + 2 * length (run moves w).state.open_links ≤ n + 2 * length w.state.open_links + 10 * length moves
 
   run_part : (moves : List Move) (n : ℕ) (w : World) (b : Book) → (Known → IsBytesBag (run moves w).state.bag) → (Known → AllByRecursion HandsBytes moves) → IsPlaced w.state →
-      HoldsFor Known Holds Calm n w.moves w.state b → Ran n moves w b
+      HoldsFor Known Holds Calm starts n w.moves w.state b → Ran n moves w b
   run_part [] n w b have handed placed holds = record { steps = n; holds = holds; few = λ known. omega arith }
   run_part (what ∷ moves) n w b have handed placed holds =
-      let moved : Moved Known Holds Calm n w.moves w.state (act w.state what) (note_coming what w.moves w.state b) =
+      let moved : Moved Known Holds Calm starts n w.moves w.state (act w.state what) (note_coming what w.moves w.state b) =
       any_part what n w.moves w.state b placed
       (λ known. bag_before w.state.bag (run (what ∷ moves) w).state.bag (run_still (what ∷ moves) w) (have known)) (λ known. (handed known).0) holds in
       let later : Ran moved.steps moves (happens w what) (note w what b) =
@@ -468,15 +480,15 @@ module _ (Known : Type 0) (Holds : MoveFact) (keeps : KeepsMovesBy any Known NoS
       record { steps = later.steps; holds = later.holds; few = λ known. omega (arith, later.few known, moved.few known) }
 
 -- moves are carried where what holds says of the bag that its units are short, and have bytes
-module _ (Holds : MoveFact) (keeps : KeepsMovesBy any (Unit {0}) NoSide Holds)
+module _ (Holds : MoveFact) (keeps : KeepsMovesBy any (Unit {0}) NoSide Holds) (starts : StationsStart Holds)
     (says : (n at : ℕ) (s : State) (b : Book) → Holds n (started at None) s [] b → IsBytesBag s.bag) where
-  carry_part : (moves : List Move) (n : ℕ) (w : World) (b : Book) → AllByRecursion HandsBytes moves → IsPlaced w.state → HoldsFor (Unit {0}) Holds (Calm (Unit {0}) Holds keeps) n w.moves w.state b →
-      Ran (Unit {0}) Holds keeps n moves w b
+  carry_part : (moves : List Move) (n : ℕ) (w : World) (b : Book) → AllByRecursion HandsBytes moves → IsPlaced w.state → HoldsFor (Unit {0}) Holds (Calm (Unit {0}) Holds keeps starts) starts n w.moves w.state b →
+      Ran (Unit {0}) Holds keeps starts n moves w b
   carry_part [] n w b handed placed holds = record { steps = n; holds = holds; few = λ known. omega arith }
   carry_part (what ∷ moves) n w b handed placed holds =
-      let moved : Moved (Unit {0}) Holds (Calm (Unit {0}) Holds keeps) n w.moves w.state (act w.state what) (note_coming what w.moves w.state b) =
-      any_part (Unit {0}) Holds keeps what n w.moves w.state b placed (λ known. says n w.moves w.state b (holds None)) (λ known. handed.0) holds in
-      let later : Ran (Unit {0}) Holds keeps moved.steps moves (happens w what) (note w what b) =
+      let moved : Moved (Unit {0}) Holds (Calm (Unit {0}) Holds keeps starts) starts n w.moves w.state (act w.state what) (note_coming what w.moves w.state b) =
+      any_part (Unit {0}) Holds keeps starts what n w.moves w.state b placed (λ known. says n w.moves w.state b (holds None)) (λ known. handed.0) holds in
+      let later : Ran (Unit {0}) Holds keeps starts moved.steps moves (happens w what) (note w what b) =
       carry_part moves moved.steps (happens w what) (note w what b) handed.1 moved.placed
       (λ next. keeps.over moved.steps w.moves moved.on next (act w.state what).state (act w.state what).given (note_coming what w.moves w.state b) tt moved.holds) in
       record { steps = later.steps; holds = later.holds; few = λ known. omega (arith, later.few known, moved.few known) }
@@ -488,32 +500,32 @@ pub record HoldsAfterMoves (Known : Type 0) (Holds : MoveFact) (plan : Plan) (mo
   pub holds : Holds steps (started (past plan moves).world.moves None) (past plan moves).world.state [] (past plan moves).book
   pub few : Known → steps + 2 * length (past plan moves).world.state.open_links ≤ 10 * length moves
 
-pub moves_keep : (Known : Type 0) (Holds : MoveFact) → KeepsMovesBy any Known NoSide Holds → (plan : Plan) (moves : List Move) → (Known → HasBytes plan moves) →
+pub moves_keep : (Known : Type 0) (Holds : MoveFact) → KeepsMovesBy any Known NoSide Holds → StationsStart Holds → (plan : Plan) (moves : List Move) → (Known → HasBytes plan moves) →
     ((on : Option Delivery) → Holds 0 (started 0 on) (first_world plan).state [] blank) → HoldsAfterMoves Known Holds plan moves
-moves_keep Known Holds keeps plan moves has holds =
+moves_keep Known Holds keeps starts plan moves has holds =
     let bag : List BagUnit = (past plan moves).world.state.bag in
-    let ran : Ran Known Holds keeps 0 moves (first_world plan) blank =
-    run_part Known Holds keeps moves 0 (first_world plan) blank
+    let ran : Ran Known Holds keeps starts 0 moves (first_world plan) blank =
+    run_part Known Holds keeps starts moves 0 (first_world plan) blank
     (λ known. record { short = λ k unit there. unit_short bag k unit (has known).short there; bytes = bytes_in bag (has known).bytes }) (λ known. (has known).handed)
     (record { made = tt; kinds = λ k unit there. absurd (got_nothing k unit there) }) holds in
     record { steps = ran.steps; holds = ran.holds None; few = λ known. omega (arith, ran.few known) }
 
 -- a fact that says of the bag that its units are bytes is kept where what is handed in are bytes
-pub moves_carry : (Holds : MoveFact) → KeepsMovesBy any (Unit {0}) NoSide Holds → ((n at : ℕ) (s : State) (b : Book) → Holds n (started at None) s [] b → IsBytesBag s.bag) →
+pub moves_carry : (Holds : MoveFact) → KeepsMovesBy any (Unit {0}) NoSide Holds → StationsStart Holds → ((n at : ℕ) (s : State) (b : Book) → Holds n (started at None) s [] b → IsBytesBag s.bag) →
     (plan : Plan) (moves : List Move) → AllByRecursion HandsBytes moves → ((on : Option Delivery) → Holds 0 (started 0 on) (first_world plan).state [] blank) →
     HoldsAfterMoves (Unit {0}) Holds plan moves
-moves_carry Holds keeps says plan moves handed holds =
-    let ran : Ran (Unit {0}) Holds keeps 0 moves (first_world plan) blank =
-    carry_part Holds keeps says moves 0 (first_world plan) blank handed (record { made = tt; kinds = λ k unit there. absurd (got_nothing k unit there) }) holds in
+moves_carry Holds keeps starts says plan moves handed holds =
+    let ran : Ran (Unit {0}) Holds keeps starts 0 moves (first_world plan) blank =
+    carry_part Holds keeps starts says moves 0 (first_world plan) blank handed (record { made = tt; kinds = λ k unit there. absurd (got_nothing k unit there) }) holds in
     record { steps = ran.steps; holds = ran.holds None; few = λ known. omega (arith, ran.few known) }
 
 -- ---- from any world on
 
 -- A fact that asks nothing of bytes holds after a run from any world in which links and units have their places.
-pub later_keeps : (Holds : MoveFact) → KeepsMovesBy any ⊥ NoSide Holds → (moves : List Move) (w : World) (b : Book) → IsPlaced w.state → ((on : Option Delivery) → Holds 0 (started w.moves on) w.state [] b) →
+pub later_keeps : (Holds : MoveFact) → KeepsMovesBy any ⊥ NoSide Holds → StationsStart Holds → (moves : List Move) (w : World) (b : Book) → IsPlaced w.state → ((on : Option Delivery) → Holds 0 (started w.moves on) w.state [] b) →
     (n : ℕ) × Holds n (started (run moves w).moves None) (run moves w).state [] (book moves w b)
-later_keeps Holds keeps moves w b placed holds =
-    let ran : Ran ⊥ Holds keeps 0 moves w b = run_part ⊥ Holds keeps moves 0 w b (λ none. absurd none) (λ none. absurd none) placed holds in (ran.steps, ran.holds None)
+later_keeps Holds keeps starts moves w b placed holds =
+    let ran : Ran ⊥ Holds keeps starts 0 moves w b = run_part ⊥ Holds keeps starts moves 0 w b (λ none. absurd none) (λ none. absurd none) placed holds in (ran.steps, ran.holds None)
 
 -- a fact that says nothing
 abbrev AnyMove : MoveFact
@@ -540,20 +552,23 @@ any_keeps = record {
   over = λ n at on next s given b none holds. tt;
 }
 
+any_starts : StationsStart AnyMove
+any_starts n at station plan s b is holds = tt
+
 -- units have their places after each move
 pub placed_next : (what : Move) (w : World) (b : Book) → IsPlaced w.state → IsPlaced (act w.state what).state
 placed_next what w b placed =
-    let moved : Moved ⊥ AnyMove (Calm ⊥ AnyMove any_keeps) 0 w.moves w.state (act w.state what) (note_coming what w.moves w.state b) =
-    any_part ⊥ AnyMove any_keeps what 0 w.moves w.state b placed (λ none. absurd none) (λ none. absurd none) (λ on. tt) in moved.placed
+    let moved : Moved ⊥ AnyMove (Calm ⊥ AnyMove any_keeps any_starts) any_starts 0 w.moves w.state (act w.state what) (note_coming what w.moves w.state b) =
+    any_part ⊥ AnyMove any_keeps any_starts what 0 w.moves w.state b placed (λ none. absurd none) (λ none. absurd none) (λ on. tt) in moved.placed
 
 -- ---- a move at which no end is made anew
 
 -- `Holds` is kept through a move at which no end is made anew, though it isn't known to be where one is
-pub move_keeps : (Holds : MoveFact) → KeepsCalmMovesBy any ⊥ NoSide Holds → (what : Move) (w : World) (b : Book) → restart_of what w.state ≡ None → IsPlaced w.state →
+pub move_keeps : (Holds : MoveFact) → KeepsCalmMovesBy any ⊥ NoSide Holds → StationsStart Holds → (what : Move) (w : World) (b : Book) → restart_of what w.state ≡ None → IsPlaced w.state →
     ((on : Option Delivery) → Holds 0 (started w.moves on) w.state [] b) →
     (n : ℕ) × ((next : Option Delivery) → Holds n (started (happens w what).moves next) (happens w what).state [] (note w what b))
-move_keeps Holds keeps what w b none placed holds =
-    let moved : Moved ⊥ Holds keeps 0 w.moves w.state (act w.state what) (note_coming what w.moves w.state b) =
-    act_part ⊥ Holds keeps what 0 w.moves w.state b placed (λ never. absurd never) (λ never. absurd never)
+move_keeps Holds keeps starts what w b none placed holds =
+    let moved : Moved ⊥ Holds keeps starts 0 w.moves w.state (act w.state what) (note_coming what w.moves w.state b) =
+    act_part ⊥ Holds keeps starts what 0 w.moves w.state b placed (λ never. absurd never) (λ never. absurd never)
     (λ end is. absurd (let never : None ≡ Some end = sym none ∙ is in cc)) holds in
     (moved.steps, λ next. keeps.over moved.steps w.moves moved.on next (act w.state what).state (act w.state what).given (note_coming what w.moves w.state b) tt moved.holds)

@@ -11,7 +11,7 @@ use Rattle.logon_client.specs.declared.plan.ClientPlan.{ClientPlan}
 use Rattle.secret_change.specs.Secrets.{IsSecret}
 use Rattle.step_notes.specs.Records.{Book}
 use Rattle.world_moves.specs.declared.links.EndId.{EndId}
-use Rattle.world_moves.specs.declared.links.EndId.TheVariants.{Client, Member}
+use Rattle.world_moves.specs.declared.links.EndId.TheVariants.{Client, Member, Station}
 use Rattle.world_moves.specs.declared.links.OpenLink.{OpenLink}
 use Rattle.world_moves.specs.declared.links.Route.{Route}
 use Rattle.world_moves.specs.declared.state.State.{State}
@@ -19,13 +19,14 @@ use Rattle.world_moves.specs.declared.state.WaitingDial.{WaitingDial}
 use Rattle.world_moves.specs.Acting.{Given, AfterHearing, done, forget, given_by, hear, perform_quietly, shut_link}
 use Rattle.world_moves.specs.Alone.{hear_alone}
 use Rattle.world_moves.specs.Links.{acceptor_of, dialler_of}
-use Rattle.world_moves.specs.Moving.{answered_link, begun, changed, renewed, settle, tick, with_link, without_first}
+use Rattle.world_moves.specs.Moving.{answered_link, begun, changed, renewed, settle, station_begun, tick, with_link, without_first}
 use Rattle.world_moves.specs.Plain.{hear_plain, renewed_plain}
 use Rattle.domain_world.specs.Past.{Delivery, note_at, note_given}
 use Rattle.domain_world.proofs.Frames.AloneNoteLaws.{note_alone}
 use Rattle.domain_world.proofs.Frames.AloneStepLaws.{renewed_alone}
 use Rattle.domain_world.proofs.Moves.ComingLaws.{CameFrom}
 use Rattle.domain_world.proofs.Moves.OpenMadeLaws.{IsAtSide, IsOnSide}
+use Rattle.interactive_station.specs.declared.plan.StationPlan.{StationPlan}
 
 -- ---- what is to hold
 
@@ -48,7 +49,7 @@ any = record {
   at_side = λ links link back end. IsOnSide links link back end;
 }
 
--- in every world in which nothing seals
+-- in every plain world
 abbrev pub every : How
 every = record {
   hears = λ end what s. hear_plain end what s;
@@ -152,6 +153,14 @@ pub record KeepsMovesBy (how : How) (Known : Type 0) (Side Holds : MoveFact) : T
   -- the move is over, and what ends gave is written down; whatever comes in the next one
   pub over : (n at : ℕ) (on next : Option Delivery) (s : State) (given : Given) (b : Book) → Side n (started at on) s given b → Holds n (started at on) s given b →
       Holds n (started (at + 1) next) s [] (note_given at given s b)
+
+-- The fact holds on where a station begins, in any world. In a plain one none stands, so that this is no part of
+-- `KeepsMovesBy`.
+abbrev pub StationsStart : MoveFact → Type 0
+StationsStart Holds =
+    (n at station : ℕ) (plan : StationPlan) (s : State) (b : Book) → slice_get s.station_plans station ≡ Some plan →
+    Holds n (waiting at None) (forget (Station station) s) [] b →
+    IsHeard Holds n (waiting at None) (Station station) (station_begun station plan (forget (Station station) s)) [] b
 
 -- `KeepsMovesBy` but for an end that is made anew, where the fact isn't known to hold on.
 pub record KeepsCalmMovesBy (how : How) (Known : Type 0) (Side Holds : MoveFact) : Type 0 where

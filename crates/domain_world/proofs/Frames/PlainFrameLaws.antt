@@ -1,7 +1,7 @@
--- A world in which nothing seals, through its moves: each end hears, and is made anew, as one that can't seal. So
--- whatever is shown of ends that hear so holds of every run of a plan in which nothing seals. It serves `drive`, and
+-- A plain world, through its moves: each end hears, and is made anew, as one that can't seal, and no station does. So
+-- whatever is shown of ends that hear so holds of every run of a plain plan. It serves `drive`, and
 -- the other laws of every such run.
-use Rattle.std.proofs.Common.{◌≡◌, ℕ, List, [], length, Option, Some, None, sym, subst}
+use Rattle.std.proofs.Common.{◌≡◌, ℕ, List, [], ◌∷◌, length, Option, Some, None, refl, sym, subst, ap, ◌∙◌, slice_get}
 use Rattle.std.specs.List.{AllByRecursion}
 use Rattle.outside.specs.declared.event.Event.{Event}
 use Rattle.outside.specs.declared.event.Event.TheVariants as event
@@ -14,14 +14,16 @@ use Rattle.world_moves.specs.Acting.{AfterHearing, Given, done, forget, hear}
 use Rattle.world_moves.specs.Ends.{EndStates}
 use Rattle.world_moves.specs.Links.{acceptor_of}
 use Rattle.world_moves.specs.Moving.{with_link}
-use Rattle.world_moves.specs.Plain.{IsPlain, NothingSeals, hear_plain, plain_world}
+use Rattle.world_moves.specs.Plain.{IsPlain, IsPlainPlan, hear_plain, plain_world}
 use Rattle.world_moves.specs.World.{World, first_world, happens, run}
 use Rattle.domain_world.specs.Claims.Sessions.{restart_of}
 use Rattle.domain_world.specs.Past.{Delivery, book, note, note_at}
 use Rattle.world_moves.proofs.PlainLaws.{hears_so_plainly, moves_plain, plain_first, renews_plainly, world_plain}
 use Rattle.domain_world.proofs.Frames.MoveFrameLaws.{HoldsAfterMoves, later_keeps, move_keeps, moves_carry, moves_keep}
-use Rattle.domain_world.proofs.Frames.MoveKeepLaws.{Both, IsHeard, KeepsCalmMovesBy, KeepsMovesBy, MoveFact, NoSide, Progress, any, but_renewed, coming, every, join_calm, join_moves, started, waiting}
+use Rattle.domain_world.proofs.Frames.MoveKeepLaws.{Both, IsHeard, KeepsCalmMovesBy, KeepsMovesBy, MoveFact, NoSide, Progress, StationsStart, any, but_renewed, coming, every, join_calm, join_moves, started, waiting, with_rest}
 use Rattle.domain_world.proofs.Moves.PlacedLaws.{HandsBytes, HasBytes, IsBytesBag, IsPlaced}
+use Rattle.interactive_station.specs.declared.plan.StationPlan.{StationPlan}
+use Rattle.wire_base.proofs.ListLaws.{got_nothing}
 
 abbrev PlainFact : MoveFact
 PlainFact n p s given b = IsPlain s
@@ -130,27 +132,36 @@ module _ (Known : Type 0) (Holds : MoveFact) where
   both_keep : KeepsMovesBy every Known NoSide Holds → KeepsMovesBy any Known NoSide (Both PlainFact Holds)
   both_keep keeps = join_moves Known PlainFact Holds (plain_stays Known) (moves_as_plain keeps)
 
--- ---- a run of a plan in which nothing seals
+-- ---- no station starts there
+
+-- none is among no plans
+none_planned : (tasks : List StationPlan) (station : ℕ) (plan : StationPlan) → tasks ≡ [] → slice_get tasks station ≡ Some plan → ⊥
+none_planned tasks station plan none is = got_nothing station plan (sym (ap (λ (all : List StationPlan). slice_get all station) none) ∙ is)
+
+none_starts : (Holds : MoveFact) → StationsStart (Both PlainFact Holds)
+none_starts Holds n at station plan s b is both = absurd (none_planned s.station_plans station plan both.0.no_task is)
+
+-- ---- a run of a plain plan
 
 -- what holds in its first world, as that of ends that can't seal
-at_first : (plan : Plan) → NothingSeals plan → (Fact : State → Type 0) → Fact (plain_world plan).state → Fact (first_world plan).state
+at_first : (plan : Plan) → IsPlainPlan plan → (Fact : State → Type 0) → Fact (plain_world plan).state → Fact (first_world plan).state
 at_first plan nothing Fact fact = subst (λ (w : World). Fact w.state) (sym (world_plain plan nothing)) fact
 
-pub moves_keep_plain : (Known : Type 0) (Holds : MoveFact) → KeepsMovesBy every Known NoSide Holds → (plan : Plan) (moves : List Move) → NothingSeals plan → (Known → HasBytes plan moves) →
+pub moves_keep_plain : (Known : Type 0) (Holds : MoveFact) → KeepsMovesBy every Known NoSide Holds → (plan : Plan) (moves : List Move) → IsPlainPlan plan → (Known → HasBytes plan moves) →
     ((on : Option Delivery) → Holds 0 (started 0 on) (plain_world plan).state [] blank) → HoldsAfterMoves Known Holds plan moves
 moves_keep_plain Known Holds keeps plan moves nothing has holds =
     let after : HoldsAfterMoves Known (Both PlainFact Holds) plan moves =
-    moves_keep Known (Both PlainFact Holds) (both_keep Known Holds keeps) plan moves has
+    moves_keep Known (Both PlainFact Holds) (both_keep Known Holds keeps) (none_starts Holds) plan moves has
     (λ on. at_first plan nothing (λ (s : State). IsPlain s × Holds 0 (started 0 on) s [] blank) (plain_first plan nothing, holds on)) in
     record { steps = after.steps; holds = after.holds.1; few = after.few }
 
 -- a fact that says of the bag that its units are bytes is kept where what is handed in are bytes
 pub moves_carry_plain : (Holds : MoveFact) → KeepsMovesBy every (Unit {0}) NoSide Holds → ((n at : ℕ) (s : State) (b : Book) → Holds n (started at None) s [] b → IsBytesBag s.bag) →
-    (plan : Plan) (moves : List Move) → NothingSeals plan → AllByRecursion HandsBytes moves → ((on : Option Delivery) → Holds 0 (started 0 on) (plain_world plan).state [] blank) →
+    (plan : Plan) (moves : List Move) → IsPlainPlan plan → AllByRecursion HandsBytes moves → ((on : Option Delivery) → Holds 0 (started 0 on) (plain_world plan).state [] blank) →
     HoldsAfterMoves (Unit {0}) Holds plan moves
 moves_carry_plain Holds keeps says plan moves nothing handed holds =
     let after : HoldsAfterMoves (Unit {0}) (Both PlainFact Holds) plan moves =
-    moves_carry (Both PlainFact Holds) (both_keep (Unit {0}) Holds keeps) (λ n at s b both. says n at s b both.1) plan moves handed
+    moves_carry (Both PlainFact Holds) (both_keep (Unit {0}) Holds keeps) (none_starts Holds) (λ n at s b both. says n at s b both.1) plan moves handed
     (λ on. at_first plan nothing (λ (s : State). IsPlain s × Holds 0 (started 0 on) s [] blank) (plain_first plan nothing, holds on)) in
     record { steps = after.steps; holds = after.holds.1; few = after.few }
 
@@ -159,12 +170,12 @@ moves_carry_plain Holds keeps says plan moves nothing handed holds =
 pub later_keeps_plain : (Holds : MoveFact) → KeepsMovesBy every ⊥ NoSide Holds → (moves : List Move) (w : World) (b : Book) → IsPlaced w.state → IsPlain w.state →
     ((on : Option Delivery) → Holds 0 (started w.moves on) w.state [] b) → (n : ℕ) × Holds n (started (run moves w).moves None) (run moves w).state [] (book moves w b)
 later_keeps_plain Holds keeps moves w b placed plain holds =
-    let later = later_keeps (Both PlainFact Holds) (both_keep ⊥ Holds keeps) moves w b placed (λ on. (plain, holds on)) in (later.0, later.1.1)
+    let later = later_keeps (Both PlainFact Holds) (both_keep ⊥ Holds keeps) (none_starts Holds) moves w b placed (λ on. (plain, holds on)) in (later.0, later.1.1)
 
 -- through one move at which no end is made anew
 pub move_keeps_plain : (Holds : MoveFact) → KeepsCalmMovesBy every ⊥ NoSide Holds → (what : Move) (w : World) (b : Book) → restart_of what w.state ≡ None → IsPlaced w.state → IsPlain w.state →
     ((on : Option Delivery) → Holds 0 (started w.moves on) w.state [] b) →
     (n : ℕ) × ((next : Option Delivery) → Holds n (started (happens w what).moves next) (happens w what).state [] (note w what b))
 move_keeps_plain Holds keeps what w b none placed plain holds =
-    let kept = move_keeps (Both PlainFact Holds) (join_calm ⊥ PlainFact Holds (calm_stays ⊥) (calm_plain ⊥ Holds keeps)) what w b none placed (λ on. (plain, holds on)) in
+    let kept = move_keeps (Both PlainFact Holds) (join_calm ⊥ PlainFact Holds (calm_stays ⊥) (calm_plain ⊥ Holds keeps)) (none_starts Holds) what w b none placed (λ on. (plain, holds on)) in
     (kept.0, λ next. (kept.1 next).1)

@@ -19,7 +19,7 @@ use Rattle.world_moves.specs.Ends.{EndStates, EndStep, drawn_on, fresh_controlle
 use Rattle.world_moves.specs.Links.{acceptor_of}
 use Rattle.world_moves.specs.Moving.{with_link}
 use Rattle.world_moves.proofs.ChangeLaws.{by_change}
-use Rattle.world_moves.specs.Plain.{NothingSeals, hear_plain as hear, plain_world}
+use Rattle.world_moves.specs.Plain.{IsPlainPlan, hear_plain as hear, plain_world}
 use Rattle.world_moves.proofs.PlainKindLaws.{plain_by as step_by, renew_plain_by as renew_by}
 use Rattle.domain_world.specs.Past.{Delivery, note_at, note_controller, note_given, past}
 use Rattle.domain_world.proofs.Frames.ControllerFrameLaws.{ControllersFact}
@@ -93,7 +93,7 @@ module _ {X : Type 0} (part : Book → X) (Fits : X → ControllersFact) (keeps 
     over = λ at on next s given b fits. subst (λ (x : X). Fits x s.ends.controllers s.chances) (sym (keeps.given at given s b)) fits;
   }
 
-  -- in every run in which nothing seals
-  pub controllers_after : (plan : Plan) (moves : List Move) → NothingSeals plan → Fits (part blank) (plain_world plan).state.ends.controllers (plain_world plan).state.chances →
+  -- in every run of a plain plan
+  pub controllers_after : (plan : Plan) (moves : List Move) → IsPlainPlan plan → Fits (part blank) (plain_world plan).state.ends.controllers (plain_world plan).state.chances →
       Fits (part (past plan moves).book) (past plan moves).world.state.ends.controllers (past plan moves).world.state.chances
   controllers_after plan moves nothing fits = every_ends_after OfTrusting trusting_keeps plan moves nothing (λ on. fits)

@@ -1,5 +1,5 @@
--- In every run in which nothing seals each controller handed on as many calls at least as came out or wait there yet.
--- It serves `Proved.alone`.
+-- In every run of a plain plan each controller handed on as many calls at least as came out or wait there yet. It
+-- serves `Proved.alone`.
 use Rattle.std.proofs.Common.{◌≡◌, ◌≤◌, ℕ, ◌+◌, ◌==◌, Bool, true, false, List, [], ◌∷◌, ◌++◌, length, Option, Some, None, Ok, Err, slice_get, slice_set, refl, sym, ap, ◌∙◌, subst, arith}
 use Rattle.std.proofs.lemmas.Bool.{false_from_ne_true}
 use Rattle.std.proofs.lemmas.Bool.Decides.{Decides-eqb}
@@ -29,7 +29,7 @@ use Rattle.world_moves.specs.Acting.{Given, given_by}
 use Rattle.world_moves.specs.Ends.{EndStates, EndStep, actions_by, client_step, fresh_controller}
 use Rattle.world_moves.specs.Links.{acceptor_of}
 use Rattle.world_moves.specs.Moving.{begun, changed, with_link}
-use Rattle.world_moves.specs.Plain.{NothingSeals, hear_plain as hear, plain_member_step as member_step, plain_world}
+use Rattle.world_moves.specs.Plain.{IsPlainPlan, hear_plain as hear, plain_member_step as member_step, plain_world}
 use Rattle.world_moves.proofs.ChangeLaws.{by_change}
 use Rattle.world_moves.proofs.PlainKindLaws.{plain_by as end_by, renew_plain_by as renew_by}
 use Rattle.domain_world.specs.Claims.{TellsOfForwards, counts_by, handed_count, told_count, waiting_count}
@@ -271,8 +271,8 @@ first_counted plan on k =
           (λ c is. each_fresh (λ (one : ControllerState). waiting_in one ≡ 0) (λ table name. refl) (λ table name. refl) plan.hands_on plan.tables plan.controllers k c is),
     )
 
--- the counts hold after every run in which nothing seals
-pub tells_of_forwards : (plan : Plan) (moves : List Move) → NothingSeals plan → TellsOfForwards (past plan moves)
+-- the counts hold after every run of a plain plan
+pub tells_of_forwards : (plan : Plan) (moves : List Move) → IsPlainPlan plan → TellsOfForwards (past plan moves)
 tells_of_forwards plan moves nothing k =
     let counted : AreCountedSo (past plan moves).world.moves [] (past plan moves).book.judgements (past plan moves).world.state.ends.controllers =
     every_ends_after CountedSoFar counted_keeps plan moves nothing (λ on. first_counted plan on) in

@@ -25,7 +25,7 @@ use Rattle.step_notes.specs.ControllerNotes.{has_passed}
 use Rattle.step_notes.specs.Records.{Judging}
 use Rattle.world_moves.specs.declared.moves.Move.{Move}
 use Rattle.world_moves.specs.declared.plan.Plan.{Plan}
-use Rattle.world_moves.specs.Plain.{NothingSeals}
+use Rattle.world_moves.specs.Plain.{IsPlainPlan}
 use Rattle.domain_world.specs.Claims.Hashes.{HashesFollowSets, hash_after, hash_at, hash_by, hash_if, hash_on, hash_own, hash_passed, hash_set}
 use Rattle.domain_world.specs.Claims.Tables.{AreByEarlier, accounts_after, accounts_if, left_if, left_on}
 use Rattle.domain_world.specs.Past.{past}
@@ -126,7 +126,7 @@ module _ (plan : Plan) (planned : AccountTable) (place : ℕ) where
   after_hash [] by controller there = refl
   after_hash (j ∷ earlier) by controller there = own_hash (j.controller == controller) j earlier controller (after_hash earlier by.1) refl by there
 
-pub hashes_follow : (plan : Plan) (moves : List Move) → NothingSeals plan → HashesFollowSets (past plan moves)
+pub hashes_follow : (plan : Plan) (moves : List Move) → IsPlainPlan plan → HashesFollowSets (past plan moves)
 hashes_follow plan moves nothing controller c planned is there place =
     let follow = tables_follow plan moves nothing in
     ap (λ (table : AccountTable). hash_at table place) (follow.stands controller c there planned is)

@@ -25,7 +25,7 @@ use Rattle.world_moves.specs.declared.moves.Move.{Move}
 use Rattle.world_moves.specs.declared.plan.Plan.{Plan}
 use Rattle.world_moves.specs.World.{first_controllers}
 use Rattle.world_moves.specs.Ends.{fresh_controller}
-use Rattle.world_moves.specs.Plain.{NothingSeals, plain_world}
+use Rattle.world_moves.specs.Plain.{IsPlainPlan, plain_world}
 use Rattle.domain_world.specs.Claims.{ReplaysBySum, moved_if, moved_on, passed_on, judged_timestamp}
 use Rattle.domain_world.specs.Past.{numbers_on, past}
 use Rattle.channel_events.proofs.TimestampLaws.{moved_none, moved_one}
@@ -103,12 +103,12 @@ first_follows plan =
     }
 
 -- after every run what each controller keeps of computers follows what was judged
-pub seeds_kept : (plan : Plan) (moves : List Move) → NothingSeals plan →
+pub seeds_kept : (plan : Plan) (moves : List Move) → IsPlainPlan plan →
     SeedsFollow (past plan moves).book.judged (past plan moves).world.state.chances.left (past plan moves).world.state.ends.controllers
 seeds_kept plan moves nothing = controllers_after judgings_of Follows follow_on plan moves nothing (first_follows plan)
 
 -- in every run each call that was judged met its channel's seed moved so
-seeds_follow : (plan : Plan) (moves : List Move) → NothingSeals plan → AreMoved (past plan moves).book.judged
+seeds_follow : (plan : Plan) (moves : List Move) → IsPlainPlan plan → AreMoved (past plan moves).book.judged
 seeds_follow plan moves nothing = (seeds_kept plan moves nothing).order.moved
 
 -- ---- the claim
@@ -245,7 +245,7 @@ by_sum channel between earlier second first moved right passed same again =
     )
 
 -- in every run a replay passes by the sum of timestamps
-pub replays_by_sum : (plan : Plan) (moves : List Move) → NothingSeals plan → ReplaysBySum (past plan moves)
+pub replays_by_sum : (plan : Plan) (moves : List Move) → IsPlainPlan plan → ReplaysBySum (past plan moves)
 replays_by_sum plan moves nothing channel later between earlier second first all passed same again =
     by_sum channel between earlier second first
     (later_moved later second (between ++ first ∷ earlier) (subst (λ (judgings : List Judging). AreMoved judgings) all (seeds_follow plan moves nothing)))

@@ -39,7 +39,7 @@ use Rattle.step_notes.proofs.Controllers.JudgedStepLaws.{same_status}
 use Rattle.world_moves.specs.declared.moves.Move.{Move}
 use Rattle.world_moves.specs.declared.plan.Plan.{Plan}
 use Rattle.world_moves.specs.World.{first_world}
-use Rattle.world_moves.specs.Plain.{NothingSeals}
+use Rattle.world_moves.specs.Plain.{IsPlainPlan}
 use Rattle.domain_world.specs.Claims.Grants.{GrantsWhoseHashIsStored, IsLetOnRightly, IsToBeLetOn}
 use Rattle.domain_world.specs.Claims.Sessions.{AreBySince, ControllerRenewed, HasSessions, SessionsFollow, is_since, last_start, renewals, sessions_if, sessions_on, sessions_since, since_if, start_before}
 use Rattle.domain_world.specs.Claims.Statuses.{TellsItsStatus}
@@ -133,7 +133,7 @@ of_running None one sessions is runs = absurd (let never : None ≡ Some one = i
 of_running (Some running) one sessions is runs = subst (λ (x : Running). x.computers.sessions ≡ sessions) (let same : running ≡ one = cc in same) runs
 
 -- in every run
-pub sessions_follow : (plan : Plan) (moves : List Move) → NothingSeals plan → SessionsFollow (past plan moves) (renewals moves (first_world plan) [])
+pub sessions_follow : (plan : Plan) (moves : List Move) → IsPlainPlan plan → SessionsFollow (past plan moves) (renewals moves (first_world plan) [])
 sessions_follow plan moves nothing =
     let starts : List ControllerRenewed = renewals moves (first_world plan) [] in
     let stands : SessionsStand plan moves = sessions_stand plan moves nothing in
@@ -239,7 +239,7 @@ all_let_on (j ∷ judgings) told right few = (
 )
 
 -- in every run a controller grants an interactive logon exactly where it is to be granted
-pub grants_by_hash : (plan : Plan) (moves : List Move) → NothingSeals plan → GrantsWhoseHashIsStored (past plan moves)
+pub grants_by_hash : (plan : Plan) (moves : List Move) → IsPlainPlan plan → GrantsWhoseHashIsStored (past plan moves)
 grants_by_hash plan moves nothing =
     all_let_on (past plan moves).book.judged (each_told plan moves nothing) (judged_rightly plan moves)
     (are_few (renewals moves (first_world plan) []) (past plan moves).book.judged (sessions_stand plan moves nothing).judged)

@@ -14,7 +14,7 @@ use Rattle.outside.specs.Drawing.{Drawing}
 use Rattle.step_notes.specs.ControllerNotes.{Answered, Where, has_passed}
 use Rattle.step_notes.specs.Records.{Book, Judging, blank}
 use Rattle.world_moves.specs.declared.links.EndId.{EndId}
-use Rattle.world_moves.specs.declared.links.EndId.TheVariants.{Controller, Member, Client}
+use Rattle.world_moves.specs.declared.links.EndId.TheVariants.{Controller, Member, Client, Station}
 use Rattle.world_moves.specs.declared.moves.Move.{Move}
 use Rattle.world_moves.specs.declared.moves.Move.TheVariants as move
 use Rattle.world_moves.specs.declared.plan.Plan.{Plan}
@@ -45,7 +45,7 @@ use Rattle.domain_world.proofs.Judgements.Openings.OpeningRunLaws.{each_fresh}
 use Rattle.domain_world.proofs.Judgements.ChainLaws.{AreChained, IsBy, left_behind, left_of}
 use Rattle.domain_world.proofs.Judgements.SessionStepLaws.{RunningChains, RunsWith, kept_sessions, step_chains}
 use Rattle.world_moves.proofs.ChangeLaws.{by_change}
-use Rattle.world_moves.specs.Plain.{IsPlain, NothingSeals, plain_end_step as end_step, renew_plain_member as renew_member, renewed_plain}
+use Rattle.world_moves.specs.Plain.{IsPlain, IsPlainPlan, plain_end_step as end_step, renew_plain_member as renew_member, renewed_plain}
 use Rattle.world_moves.proofs.PlainKindLaws.{plain_by as step_by}
 use Rattle.world_moves.proofs.PlainLaws.{first_plain, moved_plain, renews_plainly, world_plain}
 use Rattle.outside.specs.declared.action.Action.{Action}
@@ -374,6 +374,7 @@ module _ (at : ℕ) (starts : List ControllerRenewed) (judgings : List Judging) 
   end_anew (Client k) s stands =
       subst (λ (controllers : List ControllerState). Stand starts (at + 1) judgings controllers) (sym (client_anew (slice_get s.client_plans k) k s.ends))
       (later_stands starts at judgings s.ends.controllers stands)
+  end_anew (Station k) s stands = later_stands starts at judgings s.ends.controllers stands
 
 -- ---- a restart
 
@@ -426,7 +427,7 @@ pub record SessionsStand (plan : Plan) (moves : List Move) : Type 0 where
   pub each : (k : ℕ) (c : ControllerState) → slice_get (past plan moves).world.state.ends.controllers k ≡ Some c →
       RunsWith (sessions_since k (last_start k (renewals moves (first_world plan) [])) (past plan moves).book.judged) c.running
 
-pub sessions_stand : (plan : Plan) (moves : List Move) → NothingSeals plan → SessionsStand plan moves
+pub sessions_stand : (plan : Plan) (moves : List Move) → IsPlainPlan plan → SessionsStand plan moves
 sessions_stand plan moves nothing =
     let stands : Stand (renewals moves (first_world plan) []) (past plan moves).world.moves (past plan moves).book.judged (past plan moves).world.state.ends.controllers =
     all_moves moves (first_world plan) blank [] (placed_first plan) (first_plain plan nothing)

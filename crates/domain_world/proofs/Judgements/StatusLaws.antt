@@ -1,4 +1,4 @@
--- In every run in which nothing seals a call that passed is told with the status of what it comes to, where no other
+-- In every run of a plain plan a call that passed is told with the status of what it comes to, where no other
 -- controller is asked for it; a logon for a trusted domain is told as handed on, or as passed with NO_LOGON_SERVERS. It
 -- serves `Proved.statuses`.
 use Rattle.std.proofs.Common.{◌≡◌, ◌<◌, ◌||◌, ℕ, zero, suc, Bool, true, false, List, [], ◌∷◌, ◌++◌, drop, length, Option, Some, inl, inr, slice_get, refl, sym, ap, ◌∙◌, subst, arith}
@@ -40,7 +40,7 @@ use Rattle.world_moves.specs.Acting.{forget}
 use Rattle.world_moves.specs.Ends.{EndStates, EndStep, fresh_controller}
 use Rattle.world_moves.specs.Links.{acceptor_of}
 use Rattle.world_moves.specs.Moving.{with_link}
-use Rattle.world_moves.specs.Plain.{NothingSeals, hear_plain as hear, renew_plain}
+use Rattle.world_moves.specs.Plain.{IsPlainPlan, hear_plain as hear, renew_plain}
 use Rattle.world_moves.specs.World.{first_controllers}
 use Rattle.world_moves.proofs.AloneLaws.{alone_if}
 use Rattle.world_moves.proofs.ChangeLaws.{by_change}
@@ -289,26 +289,26 @@ module _ (plan : Plan) (hands : (plan.seals || plan.hands_on) ≡ true) where
       let same : fresh_controller hands_on false table name ≡ c = cc in subst AsksEach same (fresh_each hands_on is table name)
   first_asks hands_on is (table ∷ tables) (name ∷ names) (suc at) c there = first_asks hands_on is tables names at c there
 
-  told_after : plan.hands_on ≡ true → (moves : List Move) → NothingSeals plan → StatusesAreTold (past plan moves)
+  told_after : plan.hands_on ≡ true → (moves : List Move) → IsPlainPlan plan → StatusesAreTold (past plan moves)
   told_after on moves nothing =
       let after : HoldsAfterMoves ⊥ ToldFact plan moves = moves_keep_plain ⊥ ToldFact (told_keep on) plan moves nothing (λ none. absurd none)
       (λ first. record { hands_so = refl; each = first_asks plan.hands_on on plan.tables plan.controllers; judged = tt }) in after.holds.judged
 
 -- ---- where controllers aren't to hand logons on
 
-none_for : (plan : Plan) (j : Judging) → NothingSeals plan → plan.hands_on ≡ false → TellsItsStatus j → IsToldRightly plan j
+none_for : (plan : Plan) (j : Judging) → IsPlainPlan plan → plan.hands_on ≡ false → TellsItsStatus j → IsToldRightly plan j
 none_for plan j nothing off told channel stands passed = record {
   here = λ none. told channel stands passed;
   elsewhere = λ for.
       let never : true ≡ false = sym for.hands ∙ ap (λ (seals : Bool). seals || plan.hands_on) nothing.controllers ∙ off in absurd (let x = never in cc);
 }
 
-by_plan : (on : Bool) (plan : Plan) (moves : List Move) → plan.hands_on ≡ on → NothingSeals plan → StatusesAreTold (past plan moves)
+by_plan : (on : Bool) (plan : Plan) (moves : List Move) → plan.hands_on ≡ on → IsPlainPlan plan → StatusesAreTold (past plan moves)
 by_plan false plan moves off nothing =
     all_weaker TellsItsStatus (IsToldRightly plan) (past plan moves).book.judged (λ j told. none_for plan j nothing off told) (each_status plan moves (alone_if plan nothing off))
 by_plan true plan moves on nothing =
     told_after plan (ap (λ (seals : Bool). seals || plan.hands_on) nothing.controllers ∙ on) on moves nothing
 
--- calls are told with their statuses in every run in which nothing seals
-pub statuses_told : (plan : Plan) (moves : List Move) → NothingSeals plan → StatusesAreTold (past plan moves)
+-- calls are told with their statuses in every run of a plain plan
+pub statuses_told : (plan : Plan) (moves : List Move) → IsPlainPlan plan → StatusesAreTold (past plan moves)
 statuses_told plan moves nothing = by_plan plan.hands_on plan moves refl nothing

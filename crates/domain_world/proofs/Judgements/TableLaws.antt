@@ -22,7 +22,7 @@ use Rattle.world_moves.specs.declared.moves.Move.{Move}
 use Rattle.world_moves.specs.declared.plan.Plan.{Plan}
 use Rattle.world_moves.specs.declared.state.State.{State}
 use Rattle.world_moves.specs.Ends.{fresh_controller}
-use Rattle.world_moves.specs.Plain.{NothingSeals, plain_world}
+use Rattle.world_moves.specs.Plain.{IsPlainPlan, plain_world}
 use Rattle.domain_world.specs.Claims.Tables.{AreByEarlier, IsLeft, TablesFollowVerdicts, accounts_after, accounts_if, left_by, left_if, left_on}
 use Rattle.domain_world.specs.Past.{Delivery, answers_of, at_controller, judged_of, later_of, note_answers, number_sent, numbers_on, onto, past, with_reply}
 use Rattle.step_notes.proofs.Controllers.JudgedStepLaws.{on_next}
@@ -246,7 +246,7 @@ first_stands plan = record {
 }
 
 -- in every run accounts change by verdicts alone
-pub tables_follow : (plan : Plan) (moves : List Move) → NothingSeals plan → TablesFollowVerdicts (past plan moves)
+pub tables_follow : (plan : Plan) (moves : List Move) → IsPlainPlan plan → TablesFollowVerdicts (past plan moves)
 tables_follow plan moves nothing =
     let stands : Stand plan (past plan moves).book.judged (past plan moves).world.state.ends.controllers =
     controllers_after judgings_of (TablesStand plan) (stand_trusting plan) plan moves nothing (first_stands plan) in

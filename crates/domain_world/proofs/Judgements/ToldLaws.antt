@@ -13,7 +13,7 @@ use Rattle.step_notes.specs.ControllerNotes.{Answered, judged_answer, plain, sil
 use Rattle.step_notes.specs.Judged.{IsJudgedRight, IsRightOf}
 use Rattle.step_notes.specs.Records.{JudgementTold, Judging, given_in}
 use Rattle.world_moves.specs.declared.links.EndId.{EndId}
-use Rattle.world_moves.specs.declared.links.EndId.TheVariants.{Controller, Member, Client}
+use Rattle.world_moves.specs.declared.links.EndId.TheVariants.{Controller, Member, Client, Station}
 use Rattle.world_moves.specs.Acting.{Given, given_by}
 use Rattle.domain_world.specs.Claims.{AreRightlyTold, AreTheirJudgements, judgements_of_calls}
 use Rattle.domain_world.specs.Past.{judged_of, judgement_by, judgements_in, later_of, number_sent, onto, with_reply}
@@ -110,6 +110,8 @@ others_quiet (Member member) other [] at = refl
 others_quiet (Member member) other (what ∷ actions) at = others_quiet (Member member) other actions at
 others_quiet (Client client) other [] at = refl
 others_quiet (Client client) other (what ∷ actions) at = others_quiet (Client client) other actions at
+others_quiet (Station station) other [] at = refl
+others_quiet (Station station) other (what ∷ actions) at = others_quiet (Station station) other actions at
 
 -- ---- what is written down as bytes come
 

@@ -43,7 +43,7 @@ use Rattle.step_notes.proofs.Controllers.TrustedStepLaws.{IsTrusted, trusted_how
 use Rattle.world_moves.specs.declared.moves.Move.{Move}
 use Rattle.world_moves.specs.declared.plan.Plan.{Plan}
 use Rattle.world_moves.specs.Ends.{fresh_controller}
-use Rattle.world_moves.specs.Plain.{NothingSeals, plain_world}
+use Rattle.world_moves.specs.Plain.{IsPlainPlan, plain_world}
 use Rattle.domain_world.specs.Claims.Grants.{GrantsWhoMayLogOn, IsGrantedRightly, IsToBeGranted, users_of}
 use Rattle.domain_world.specs.Claims.Statuses.{TellsItsStatus}
 use Rattle.domain_world.specs.Past.{answers_of, at_controller, judged_of, note_controller, numbers_on, past}
@@ -184,11 +184,11 @@ first_stands plan = record {
 }
 
 -- in every run
-stand_after : (plan : Plan) (moves : List Move) → NothingSeals plan → StandsByTable plan (past plan moves).book.judged (past plan moves).world.state.ends.controllers
+stand_after : (plan : Plan) (moves : List Move) → IsPlainPlan plan → StandsByTable plan (past plan moves).book.judged (past plan moves).world.state.ends.controllers
 stand_after plan moves nothing = controllers_after judgings_of (ByTable plan) (stand_on plan) plan moves nothing (first_stands plan)
 
 -- each call that passed was told with its status, unless it came for a trusted domain
-pub each_told : (plan : Plan) (moves : List Move) → NothingSeals plan → AllByRecursion IsToldSo (past plan moves).book.judged
+pub each_told : (plan : Plan) (moves : List Move) → IsPlainPlan plan → AllByRecursion IsToldSo (past plan moves).book.judged
 each_told plan moves nothing = all_weaker (IsByTable plan) IsToldSo (past plan moves).book.judged (λ j planned. planned.1) (stand_after plan moves nothing).judged
 
 -- ---- each is granted rightly
@@ -252,6 +252,6 @@ all_rightly plan (j ∷ judgings) planned right users = (
 )
 
 -- in every run a controller grants a Logon call exactly where it is to be granted, by the accounts of the plan
-pub grants_who_may : (plan : Plan) (moves : List Move) → NothingSeals plan → AllByRecursion (HasUsers plan) (past plan moves).book.judged → GrantsWhoMayLogOn (past plan moves)
+pub grants_who_may : (plan : Plan) (moves : List Move) → IsPlainPlan plan → AllByRecursion (HasUsers plan) (past plan moves).book.judged → GrantsWhoMayLogOn (past plan moves)
 grants_who_may plan moves nothing users =
     all_rightly plan (past plan moves).book.judged (stand_after plan moves nothing).judged (judged_rightly plan moves) users

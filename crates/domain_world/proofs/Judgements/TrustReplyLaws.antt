@@ -1,4 +1,4 @@
--- In every run in which nothing seals each unit of the bag that is marked as a reply carries what its controller
+-- In every run of a plain plan each unit of the bag that is marked as a reply carries what its controller
 -- judged, or answers a call that was handed on. It serves `Proved.replies`.
 use Rattle.std.proofs.Common.{◌≡◌, ◌⊎◌, ◌||◌, ◌&&◌, not, ℕ, zero, suc, ◌+◌, Bool, true, false, List, [], ◌∷◌, ◌++◌, length, map, inl, inr, Option, Some, None, Result, Ok, Err, refl, sym, ap, ◌∙◌, subst, slice_get}
 use Rattle.std.specs.Prelude.{cond, filter}
@@ -40,7 +40,7 @@ use Rattle.world_moves.specs.declared.plan.Plan.{Plan}
 use Rattle.world_moves.specs.declared.state.State.{State}
 use Rattle.world_moves.specs.Acting.{AfterHearing, heard_by}
 use Rattle.world_moves.specs.Ends.{actions_by}
-use Rattle.world_moves.specs.Plain.{NothingSeals, plain_controller_step as controller_step, plain_member_step as member_step}
+use Rattle.world_moves.specs.Plain.{IsPlainPlan, plain_controller_step as controller_step, plain_member_step as member_step}
 use Rattle.world_moves.proofs.AloneLaws.{alone_if}
 use Rattle.world_moves.proofs.LinkFrameLaws.{IsOnLink}
 use Rattle.domain_world.specs.Claims.Replies.{IsReplyOfOne}
@@ -437,7 +437,7 @@ module _ (plan : Plan) (hands : HandsOn plan) where
     others = λ n at on s given b number unit side. beside_free plan b.judged number unit.bytes b.forwards s unit side.1;
   }
 
-  replies_after : (moves : List Move) → NothingSeals plan → RepliesAreOfTheirCalls (past plan moves)
+  replies_after : (moves : List Move) → IsPlainPlan plan → RepliesAreOfTheirCalls (past plan moves)
   replies_after moves nothing number unit sent there marked =
       let judgings : List Judging = (past plan moves).book.judged in
       let sides : KeepsMovesBy every ⊥ NoSide Side =
@@ -461,12 +461,12 @@ of_judged plan judgings number bytes (ReplyTo channel call request) is =
     inl (one_weaker (λ (j : Judging). (j.reply ≡ Some number) × IsReplyOfCall channel call request j bytes) (IsReplyIn plan channel call request number bytes) judgings
     (λ j of. (of.0, inl of.1)) is)
 
-by_plan : (on : Bool) (plan : Plan) (moves : List Move) → plan.hands_on ≡ on → NothingSeals plan → RepliesAreOfTheirCalls (past plan moves)
+by_plan : (on : Bool) (plan : Plan) (moves : List Move) → plan.hands_on ≡ on → IsPlainPlan plan → RepliesAreOfTheirCalls (past plan moves)
 by_plan false plan moves off nothing = λ number unit sent there marked.
     of_judged plan (past plan moves).book.judged number (plain_form (past plan moves).book.sent number unit) sent.mark (replies_carry plan moves (alone_if plan nothing off) number unit sent there marked)
 by_plan true plan moves on nothing =
     replies_after plan (ap (λ (seals : Bool). seals || plan.hands_on) nothing.controllers ∙ on) moves nothing
 
--- replies are of their calls in every run in which nothing seals
-pub replies_of_calls : (plan : Plan) (moves : List Move) → NothingSeals plan → RepliesAreOfTheirCalls (past plan moves)
+-- replies are of their calls in every run of a plain plan
+pub replies_of_calls : (plan : Plan) (moves : List Move) → IsPlainPlan plan → RepliesAreOfTheirCalls (past plan moves)
 replies_of_calls plan moves nothing = by_plan plan.hands_on plan moves refl nothing

@@ -31,7 +31,7 @@ use Rattle.world_moves.specs.Acting.{Given, given_by}
 use Rattle.world_moves.specs.Ends.{EndStep, actions_by, client_step}
 use Rattle.world_moves.specs.Links.{acceptor_of}
 use Rattle.world_moves.specs.Moving.{begun, changed, with_link}
-use Rattle.world_moves.specs.Plain.{NothingSeals, hear_plain as hear, plain_member_step as member_step}
+use Rattle.world_moves.specs.Plain.{IsPlainPlan, hear_plain as hear, plain_member_step as member_step}
 use Rattle.world_moves.proofs.PlainKindLaws.{plain_by as end_by}
 use Rattle.domain_world.specs.Claims.{AreTheirJudgements, PassesTheNextCredential, judgements_of_calls}
 use Rattle.domain_world.specs.Past.{Delivery, answers_of, at_controller, judged_of, judgements_in, note_at, note_client, note_controller, note_member, note_messages, numbers_on, onto, past}
@@ -235,7 +235,7 @@ told_keeps = record {
 }
 
 -- in every run a controller passes an authenticator exactly where it is the next one
-pub passes_the_next : (plan : Plan) (moves : List Move) → NothingSeals plan → PassesTheNextCredential (past plan moves)
+pub passes_the_next : (plan : Plan) (moves : List Move) → IsPlainPlan plan → PassesTheNextCredential (past plan moves)
 passes_the_next plan moves nothing =
     subst (λ (told : List JudgementTold). AreTheirJudgements told (past plan moves).book.judged) (every_ends_after ToldSoFar told_keeps plan moves nothing (λ on. refl))
     (all_rightly (past plan moves).book.judged (judged_rightly plan moves))

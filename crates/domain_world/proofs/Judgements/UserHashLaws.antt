@@ -27,7 +27,7 @@ use Rattle.step_notes.specs.ControllerNotes.{has_passed}
 use Rattle.step_notes.specs.Records.{Judging}
 use Rattle.world_moves.specs.declared.moves.Move.{Move}
 use Rattle.world_moves.specs.declared.plan.Plan.{Plan}
-use Rattle.world_moves.specs.Plain.{NothingSeals}
+use Rattle.world_moves.specs.Plain.{IsPlainPlan}
 use Rattle.domain_world.specs.Claims.Grants.{hash_of_user, users_of}
 use Rattle.domain_world.specs.Claims.Tables.{AreByEarlier, accounts_after, accounts_if, left_if, left_on}
 use Rattle.domain_world.specs.Past.{past}
@@ -156,5 +156,5 @@ each_leaves plan (j ∷ earlier) by = (
 )
 
 -- in every run each call was judged by the hashes that users have in the plan
-pub users_stay : (plan : Plan) (moves : List Move) → NothingSeals plan → AllByRecursion (HasUsers plan) (past plan moves).book.judged
+pub users_stay : (plan : Plan) (moves : List Move) → IsPlainPlan plan → AllByRecursion (HasUsers plan) (past plan moves).book.judged
 users_stay plan moves nothing = each_leaves plan (past plan moves).book.judged (tables_follow plan moves nothing).judged

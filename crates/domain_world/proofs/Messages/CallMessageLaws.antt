@@ -42,7 +42,7 @@ use Rattle.step_notes.specs.Records.{MessageTaken}
 use Rattle.step_notes.specs.Served.{work_after}
 use Rattle.world_moves.specs.declared.moves.Move.{Move}
 use Rattle.world_moves.specs.declared.plan.Plan.{Plan}
-use Rattle.world_moves.specs.Plain.{NothingSeals}
+use Rattle.world_moves.specs.Plain.{IsPlainPlan}
 use Rattle.domain_world.specs.Claims.AskedFor.{AreSentFor, AsksBy, AsksForItsMessage, IsForItsMessage, IsOfMessage, MembersAskForMessages, SendsAskForMessages}
 use Rattle.domain_world.specs.Past.{past}
 use Rattle.step_notes.proofs.ServedLaws.{served_such}
@@ -228,7 +228,7 @@ module _ (most member : ℕ) (messages : List MessageTaken) where
 -- ---- a run
 
 -- in every run each Logon call that goes out next is for a message
-pub members_ask_for_messages : (plan : Plan) (moves : List Move) → NothingSeals plan → MembersAskForMessages (past plan moves)
+pub members_ask_for_messages : (plan : Plan) (moves : List Move) → IsPlainPlan plan → MembersAskForMessages (past plan moves)
 members_ask_for_messages plan moves nothing member m there controller number piece now left =
     let holds : HoldsOf (past plan moves).world (past plan moves).book = run_holds plan moves nothing in
     let most : ℕ = (past plan moves).world.moves in
@@ -318,7 +318,7 @@ module _ (member : ℕ) (m : MemberState) (messages : List MessageTaken) (contro
       (λ more. AreFirst controller units more) (λ more rest. all_place units more alike.1 asks.1 rest) alike.0 asks.0 first
 
 -- in every run each mark of the next step is that of what is sent in its place
-pub sends_ask_for_messages : (plan : Plan) (moves : List Move) → NothingSeals plan → SendsAskForMessages (past plan moves)
+pub sends_ask_for_messages : (plan : Plan) (moves : List Move) → IsPlainPlan plan → SendsAskForMessages (past plan moves)
 sends_ask_for_messages plan moves nothing member m there controller number piece now left actions is =
     all_place member m (past plan moves).book.messages controller (turn_units m number piece now left) actions
     (all_hold (AreAsBefore m.running) (as_kept m.running) m number piece now left (as_first m.running))

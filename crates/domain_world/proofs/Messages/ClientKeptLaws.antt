@@ -32,7 +32,7 @@ use Rattle.step_notes.proofs.ClientNoteLaws.{clients_write_down}
 use Rattle.world_moves.specs.declared.links.Route.{Route}
 use Rattle.world_moves.specs.declared.moves.Move.{Move}
 use Rattle.world_moves.specs.declared.plan.Plan.{Plan}
-use Rattle.world_moves.specs.Plain.{NothingSeals}
+use Rattle.world_moves.specs.Plain.{IsPlainPlan}
 use Rattle.domain_world.specs.Claims.WrittenDown.{ClientsAreWrittenDown, IsMadeOn, IsMadeWith}
 use Rattle.domain_world.specs.Past.{past}
 use Rattle.domain_world.proofs.Messages.ClientMadeLaws.{IsBy, client_by}
@@ -237,7 +237,7 @@ of_made_keeps plans = record {
 }
 
 -- in every run a key that a client keeps is that of a message that is written down
-pub clients_written : (plan : Plan) (moves : List Move) → NothingSeals plan → ClientsAreWrittenDown (past plan moves)
+pub clients_written : (plan : Plan) (moves : List Move) → IsPlainPlan plan → ClientsAreWrittenDown (past plan moves)
 clients_written plan moves nothing =
     let kept = clients_after plan moves nothing OfMade AnyMade (of_made_keeps plan.clients) tt in
     record {

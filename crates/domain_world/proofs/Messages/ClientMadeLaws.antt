@@ -41,7 +41,7 @@ use Rattle.world_moves.specs.declared.links.Route.{Route}
 use Rattle.world_moves.specs.declared.links.Route.TheVariants.{ToMember}
 use Rattle.world_moves.specs.declared.moves.Move.{Move}
 use Rattle.world_moves.specs.declared.plan.Plan.{Plan}
-use Rattle.world_moves.specs.Plain.{NothingSeals}
+use Rattle.world_moves.specs.Plain.{IsPlainPlan}
 use Rattle.wire_base.proofs.ListLaws.{all_weaker, got_append}
 use Rattle.domain_world.specs.Claims.WrittenDown.{IsOfItsClient, MessagesAreOfTheirClients}
 use Rattle.domain_world.specs.Past.{Past, past}
@@ -192,7 +192,7 @@ module _ (plans : List ClientPlan) where
   }
 
 -- in every run each message that is written down as made is of its client
-pub messages_of_clients : (plan : Plan) (moves : List Move) → NothingSeals plan → MessagesAreOfTheirClients (past plan moves)
+pub messages_of_clients : (plan : Plan) (moves : List Move) → IsPlainPlan plan → MessagesAreOfTheirClients (past plan moves)
 messages_of_clients plan moves nothing =
     let run : Past = past plan moves in
     all_weaker (IsOwnMade plan.clients run.world.state.links) (IsOfItsClient run) run.book.made

@@ -11,7 +11,7 @@ use Rattle.step_notes.specs.CallLogons.{AsksUnlessStopped}
 use Rattle.step_notes.specs.Records.{Book}
 use Rattle.world_moves.specs.declared.moves.Move.{Move}
 use Rattle.world_moves.specs.declared.plan.Plan.{Plan}
-use Rattle.world_moves.specs.Plain.{NothingSeals}
+use Rattle.world_moves.specs.Plain.{IsPlainPlan}
 use Rattle.domain_world.specs.Claims.AskedFor.{MembersAskForKept}
 use Rattle.domain_world.specs.Past.{past}
 use Rattle.step_notes.proofs.Members.CallKeptLaws.{change_asks, fresh_asks, step_asks}
@@ -67,5 +67,5 @@ ask_on = record {
 }
 
 -- in every run each member asks for what it keeps
-pub members_ask : (plan : Plan) (moves : List Move) → NothingSeals plan → MembersAskForKept (past plan moves)
+pub members_ask : (plan : Plan) (moves : List Move) → IsPlainPlan plan → MembersAskForKept (past plan moves)
 members_ask plan moves nothing = members_after no_part Ask ask_on plan moves nothing (fresh_ask plan.members)

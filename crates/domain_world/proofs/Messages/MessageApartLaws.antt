@@ -22,7 +22,7 @@ use Rattle.world_moves.specs.declared.links.EndId.{EndId}
 use Rattle.world_moves.specs.declared.moves.Move.{Move}
 use Rattle.world_moves.specs.declared.plan.Plan.{Plan}
 use Rattle.world_moves.specs.declared.state.State.{State}
-use Rattle.world_moves.specs.Plain.{NothingSeals}
+use Rattle.world_moves.specs.Plain.{IsPlainPlan}
 use Rattle.domain_world.specs.Accepting.Answered.{MessagesAreApart}
 use Rattle.domain_world.specs.Past.{Delivery, at_member, change_if, change_message, note_at, note_member, note_messages, note_turn, past, with_answer, with_call}
 use Rattle.wire_base.proofs.ListLaws.{pairs_first}
@@ -181,7 +181,7 @@ end_among end w piece s after b among =
     book_by (λ (one : EndId) (now : Book). AreAmong now) w piece s after b (λ one. among) (λ at c is. among) (λ at m is. member_among m at w piece s after b among) (λ at c is. among) end
 
 -- in every run
-pub messages_apart : (plan : Plan) (moves : List Move) → NothingSeals plan → MessagesAreApart (past plan moves)
+pub messages_apart : (plan : Plan) (moves : List Move) → IsPlainPlan plan → MessagesAreApart (past plan moves)
 messages_apart plan moves nothing =
     let b : Book = (past plan moves).book in
     links_apart b.messages

@@ -24,7 +24,7 @@ use Rattle.world_moves.specs.Ends.{EndStates, EndStep, client_step}
 use Rattle.world_moves.specs.Forms.{IsClientPlan, IsSchedule}
 use Rattle.world_moves.specs.Links.{acceptor_of}
 use Rattle.world_moves.proofs.ChangeLaws.{by_change}
-use Rattle.world_moves.specs.Plain.{NothingSeals, plain_end_step as end_step, plain_member_step as member_step, plain_world, renewed_plain as renewed}
+use Rattle.world_moves.specs.Plain.{IsPlainPlan, plain_end_step as end_step, plain_member_step as member_step, plain_world, renewed_plain as renewed}
 use Rattle.world_moves.proofs.PlainKindLaws.{plain_by as step_by, renew_plain_by as renew_by}
 use Rattle.domain_world.specs.Accepting.KeysMade.{IsMadeFrom, MessagesAreMade}
 use Rattle.domain_world.specs.Past.{Delivery, note_at, note_client, past}
@@ -163,7 +163,7 @@ form_names : (plan : ClientPlan) → IsClientPlan plan → HasNames plan
 form_names plan forms = (units_are plan.user forms.user, units_are plan.domain forms.domain)
 
 -- in every schedule each message that a client made is the answer of its plan
-pub messages_made : (plan : Plan) (moves : List Move) → NothingSeals plan → IsSchedule plan moves → MessagesAreMade (past plan moves)
+pub messages_made : (plan : Plan) (moves : List Move) → IsPlainPlan plan → IsSchedule plan moves → MessagesAreMade (past plan moves)
 messages_made plan moves nothing schedule =
     let names : AllByRecursion HasNames plan.clients =
     recursion_from_All HasNames plan.clients (All-weaker IsClientPlan HasNames form_names plan.clients schedule.forms.clients) in

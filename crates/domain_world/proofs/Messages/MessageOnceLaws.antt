@@ -20,11 +20,11 @@ use Rattle.world_moves.specs.declared.moves.Move.{Move}
 use Rattle.world_moves.specs.declared.plan.Plan.{Plan}
 use Rattle.world_moves.specs.declared.state.State.{State}
 use Rattle.world_moves.specs.Links.{acceptor_of}
-use Rattle.world_moves.specs.Plain.{NothingSeals, plain_world}
+use Rattle.world_moves.specs.Plain.{IsPlainPlan, plain_world}
 use Rattle.domain_world.specs.Past.{Delivery, at_member, note_member, note_messages, past}
 use Rattle.wire_base.proofs.ListLaws.{got_append, got_behind}
 use Rattle.step_notes.proofs.Members.UnservedLaws.{LinksIn, Opens, Took, bytes_took, in_so, step_known}
-use Rattle.domain_world.proofs.Frames.FrameLaws.{IsQuiet}
+use Rattle.domain_world.proofs.Frames.FrameLaws.{BringsNothing}
 use Rattle.domain_world.proofs.Frames.TurnFrameLaws.{turns_taken}
 use Rattle.domain_world.proofs.Frames.MemberFrameLaws.{KeepsMembers, MembersFact, members_after}
 use Rattle.domain_world.proofs.Frames.EndNoteLaws.{taken_so, takings_of}
@@ -145,7 +145,7 @@ last_may taken links route at is below = record {
 -- ---- a member hears something
 
 -- an event at which neither bytes come nor a link opens asks nothing
-pub quiet_opens : (what : Event) (May : ℕ → Phase → Type 0) → IsQuiet what → Opens what May
+pub quiet_opens : (what : Event) (May : ℕ → Phase → Type 0) → BringsNothing what → Opens what May
 quiet_opens what May = by_quiet (λ (one : Event). Opens one May) (λ link. tt) (λ link. tt) tt tt what
 
 hear_keeps : (taken : List ℕ) (m : MemberState) (at : ℕ) (what : Event) (now : ℕ) (members : List MemberState) (left : List (List ℕ)) (links : List Route) → slice_get members at ≡ Some m →
@@ -198,5 +198,5 @@ first_kept plan = record {
 }
 
 -- in every run a link takes at most one AUTHENTICATE
-pub messages_once : (plan : Plan) (moves : List Move) → NothingSeals plan → AllPairs (λ (one other : ℕ). one ≢ other) (past plan moves).book.taken
+pub messages_once : (plan : Plan) (moves : List Move) → IsPlainPlan plan → AllPairs (λ (one other : ℕ). one ≢ other) (past plan moves).book.taken
 messages_once plan moves nothing = (members_after takings_of MessagesAreKept keeps_on plan moves nothing (first_kept plan)).once

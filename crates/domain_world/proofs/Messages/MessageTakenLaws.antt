@@ -30,7 +30,7 @@ use Rattle.world_moves.specs.declared.moves.Move.{Move}
 use Rattle.world_moves.specs.declared.plan.Plan.{Plan}
 use Rattle.world_moves.specs.declared.state.State.{State}
 use Rattle.world_moves.specs.Links.{acceptor_of}
-use Rattle.world_moves.specs.Plain.{NothingSeals, plain_world}
+use Rattle.world_moves.specs.Plain.{IsPlainPlan, plain_world}
 use Rattle.domain_world.specs.Accepting.KeysMade.{IsTakenAsSent, MessagesAreTakenAsSent}
 use Rattle.domain_world.specs.Past.{Delivery, Past, at_member, change_if, change_message, note_member, note_messages, note_turn, past, with_answer, with_call}
 use Rattle.wire_base.proofs.ListLaws.{all_weaker, got_behind, one_before, one_behind}
@@ -324,7 +324,7 @@ sent_for challenges apart message its l sent there same =
     }
 
 -- in every run each message is taken as it was sent for
-pub messages_taken : (plan : Plan) (moves : List Move) → NothingSeals plan → MessagesAreTakenAsSent (past plan moves)
+pub messages_taken : (plan : Plan) (moves : List Move) → IsPlainPlan plan → MessagesAreTakenAsSent (past plan moves)
 messages_taken plan moves nothing =
     let run : Past = past plan moves in
     let kept : AreAsSent (written_of run.book) run.world.state.ends.members run.world.state.links run.world.state.chances.left =

@@ -1,4 +1,4 @@
--- In every run in which nothing seals the accepted links that a controller at work keeps are links of the world that it
+-- In every run of a plain plan the accepted links that a controller at work keeps are links of the world that it
 -- accepted: a controller serves nothing on a link that it dialled. The law serves `Proved.replies`.
 use Rattle.std.proofs.Common.{◌≡◌, ℕ, ◌+◌, ◌==◌, Bool, true, false, List, [], ◌∷◌, ◌++◌, length, inl, inr, Option, Some, None, Result, Ok, Err, slice_get, slice_set, refl, sym, subst, arith, if◌then◌else◌}
 use Rattle.std.specs.List.{AllByRecursion}

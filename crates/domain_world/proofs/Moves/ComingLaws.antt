@@ -7,11 +7,11 @@ use Rattle.wire_base.proofs.NumberLaws.{AreBytes-drop, AreBytes-take}
 use Rattle.wire_base.specs.Lists.{OneOf}
 use Rattle.world_moves.specs.declared.bag.BagUnit.{BagUnit}
 use Rattle.world_moves.specs.declared.links.EndId.{EndId}
-use Rattle.world_moves.specs.declared.links.EndId.TheVariants.{Controller, Member, Client}
+use Rattle.world_moves.specs.declared.links.EndId.TheVariants.{Controller, Member, Client, Station}
 use Rattle.world_moves.specs.declared.links.LinkKind.{LinkKind}
 use Rattle.world_moves.specs.declared.links.LinkKind.TheVariants as kind
 use Rattle.world_moves.specs.declared.links.Route.{Route}
-use Rattle.world_moves.specs.declared.links.Route.TheVariants.{ToMember, ToController, Between}
+use Rattle.world_moves.specs.declared.links.Route.TheVariants.{ToMember, ToController, Between, FromStation}
 use Rattle.world_moves.specs.declared.moves.Move.{Move}
 use Rattle.world_moves.specs.declared.state.State.{State}
 use Rattle.world_moves.specs.Bag.{piece_limit, pieces_in, pieces_of, settle_at, settled}
@@ -120,6 +120,15 @@ same_kinds kind.Between kind.Stranger is = absurd cc
 same_kinds kind.Stranger kind.ToMember is = absurd cc
 same_kinds kind.Stranger kind.ToController is = absurd cc
 same_kinds kind.Stranger kind.Between is = absurd cc
+same_kinds kind.FromStation kind.FromStation is = refl
+same_kinds kind.FromStation kind.ToMember is = absurd cc
+same_kinds kind.ToMember kind.FromStation is = absurd cc
+same_kinds kind.FromStation kind.ToController is = absurd cc
+same_kinds kind.ToController kind.FromStation is = absurd cc
+same_kinds kind.FromStation kind.Between is = absurd cc
+same_kinds kind.Between kind.FromStation is = absurd cc
+same_kinds kind.FromStation kind.Stranger is = absurd cc
+same_kinds kind.Stranger kind.FromStation is = absurd cc
 
 -- a link with a route of that kind
 abbrev pub IsLinkOf : List Route → ℕ → LinkKind → Type 0
@@ -159,13 +168,21 @@ route_dials (Member member) (Some (Controller controller)) route is = let same :
 route_dials (Client client) None route is = absurd cc
 route_dials (Client client) (Some (Controller at)) route is = absurd cc
 route_dials (Client client) (Some (Client at)) route is = absurd cc
+route_dials (Client client) (Some (Station at)) route is = absurd cc
 route_dials (Member member) None route is = absurd cc
 route_dials (Member member) (Some (Member at)) route is = absurd cc
 route_dials (Member member) (Some (Client at)) route is = absurd cc
+route_dials (Member member) (Some (Station at)) route is = absurd cc
 route_dials (Controller controller) None route is = absurd cc
 route_dials (Controller controller) (Some (Controller at)) route is = between_dials (controller == at) controller at route is
 route_dials (Controller controller) (Some (Member at)) route is = absurd cc
 route_dials (Controller controller) (Some (Client at)) route is = absurd cc
+route_dials (Controller controller) (Some (Station at)) route is = absurd cc
+route_dials (Station station) (Some (Controller controller)) route is = let same : FromStation station controller ≡ route = cc in sym (ap dialler_of same)
+route_dials (Station station) None route is = absurd cc
+route_dials (Station station) (Some (Member at)) route is = absurd cc
+route_dials (Station station) (Some (Client at)) route is = absurd cc
+route_dials (Station station) (Some (Station at)) route is = absurd cc
 
 -- ---- the units of the bag
 

@@ -18,6 +18,10 @@ use Rattle.domain_controller.specs.SealStep as sealing
 use Rattle.domain_controller.specs.TrustStep as trusting
 use Rattle.domain_controller.specs.declared.sealed.Sealing.{Sealing}
 use Rattle.domain_controller.specs.declared.state.Running.{Running as ControllerRunning}
+use Rattle.interactive_station.specs.Machine as station
+use Rattle.interactive_station.specs.State.{StationState}
+use Rattle.interactive_station.specs.declared.outcome.StationOutcome.{StationOutcome}
+use Rattle.interactive_station.specs.declared.state.StationRunning.{StationRunning}
 use Rattle.logon_client.specs.Machine as client
 use Rattle.logon_client.specs.State.{State as ClientState}
 use Rattle.logon_client.specs.declared.outcome.ClientOutcome.{ClientOutcome}
@@ -39,7 +43,7 @@ use Rattle.world_moves.proofs.EndKindLaws.{step_by as any_by}
 use Rattle.domain_world.specs.Past.{past}
 use Rattle.domain_world.proofs.Frames.AloneStepLaws.{alone_by as end_by}
 use Rattle.domain_world.proofs.Frames.EndFrameLaws.{EndFact, KeepsEndsBy, any_ends_after}
-use Rattle.domain_world.proofs.Frames.AnyStepLaws.{sealed_rest, sealing_rest, taken_rest}
+use Rattle.domain_world.proofs.Frames.AnyStepLaws.{sealed_rest, sealing_rest, station_rest, taken_rest}
 use Rattle.domain_world.proofs.Frames.EveryStepLaws.{controller_rest as plain_rest}
 use Rattle.domain_world.proofs.Frames.MoveKeepLaws.{any}
 use Rattle.domain_world.proofs.Moves.LeftLaws.{end_rests}
@@ -81,6 +85,16 @@ client_draws : (r : Option ClientRunning) (c : ClientState) (what : Event) (now 
     DrawsRest (client.step_by_running r c what now left) left
 client_draws None c what now left rest = refl
 client_draws (Some running) c what now left rest = outcome_draws c.outcome running c what now left rest
+
+station_outcome_draws : (outcome : Option StationOutcome) (running : StationRunning) (t : StationState) (what : Event) (now : ℕ) (left : List (List ℕ)) →
+    IsRest (station.step_by_outcome outcome running t what now left).left left → DrawsRest (station.step_by_outcome outcome running t what now left) left
+station_outcome_draws (Some outcome) running t what now left rest = between_rest left left rest
+station_outcome_draws None running t what now left rest = part_draws _ _ _ left (station.by_event what running.standing (station.work_of running.task now) left) rest
+
+station_draws : (r : Option StationRunning) (t : StationState) (what : Event) (now : ℕ) (left : List (List ℕ)) → IsRest (station.step_by_running r t what now left).left left →
+    DrawsRest (station.step_by_running r t what now left) left
+station_draws None t what now left rest = refl
+station_draws (Some running) t what now left rest = station_outcome_draws t.outcome running t what now left rest
 
 -- ---- what was drawn and what is left
 
@@ -131,7 +145,8 @@ any_all end what now ends chances =
     (λ at c is.
     let step = sealing.seal_step_of c what now chances.left in same_all chances step.drawn step.left (any_controller_draws c.trusting.sealing c what now chances.left))
     (λ at m is. let step = sealed.any_step_of m what now chances.left in same_all chances step.drawn step.left (any_member_draws m.running m what now chances.left))
-    (λ at c is. let step = client.step_of c what now chances.left in same_all chances step.drawn step.left (client_draws c.running c what now chances.left (client_leaves_rest c what now chances.left))) end
+    (λ at c is. let step = client.step_of c what now chances.left in same_all chances step.drawn step.left (client_draws c.running c what now chances.left (client_leaves_rest c what now chances.left)))
+    (λ at t is. let step = station.step_of t what now chances.left in same_all chances step.drawn step.left (station_draws t.running t what now chances.left (station_rest t.running t what now chances.left))) end
 
 -- ---- a run
 
@@ -156,7 +171,7 @@ given_all plan = challenges_from plan.seed 0 0 (most_draws - 0)
 
 run_all : (plan : Plan) (moves : List Move) → all_of (past plan moves).world.state.chances ≡ given_all plan
 run_all plan moves =
-    any_ends_after (AreOf (given_all plan)) (of_stays (given_all plan)) plan moves
+    any_ends_after (AreOf (given_all plan)) (of_stays (given_all plan)) (λ n at station plan s b is holds. holds) plan moves
     (λ on. ap (λ (drawn : List (List ℕ)). drawn ++ given_all plan) (challenges_from-none plan.seed 0 0))
 
 -- ---- a front of them

@@ -1,4 +1,4 @@
--- In every world in which nothing seals no more units have marks than there are, and each has its own where bytes come
+-- In every plain world no more units have marks than there are, and each has its own where bytes come
 -- at a server. It is an instance of `MoveFrameLaws`. It serves `Proved.call_marks`.
 use Rattle.std.proofs.Common.{◌≡◌, ℕ, ◌≤◌, true, false, List, [], ◌++◌, drop, length, map, Option, Some, None, refl, ap, sym, subst, ◌∙◌, arith, length-append}
 use Rattle.std.proofs.lemmas.List.{length-drop, length-map}

@@ -31,7 +31,7 @@ use Rattle.world_moves.specs.declared.bag.BagUnit.{BagUnit}
 use Rattle.world_moves.specs.declared.links.EndId.{EndId}
 use Rattle.world_moves.specs.declared.links.EndId.TheVariants.{Controller}
 use Rattle.world_moves.specs.declared.links.Route.{Route}
-use Rattle.world_moves.specs.declared.links.Route.TheVariants.{ToMember, ToController, Between, Stranger}
+use Rattle.world_moves.specs.declared.links.Route.TheVariants.{ToMember, ToController, Between, Stranger, FromStation}
 use Rattle.world_moves.specs.declared.state.State.{State}
 use Rattle.world_moves.specs.Acting.{AfterHearing, done, heard_by}
 use Rattle.world_moves.specs.Ends.{actions_by}
@@ -187,6 +187,7 @@ controller_way false route at apart is =
 controller_way true (ToMember client member) at apart is = absurd cc
 controller_way true (ToController member controller) at apart is = absurd cc
 controller_way true (Between from to) at apart is = absurd apart
+controller_way true (FromStation station controller) at apart is = absurd apart
 controller_way true (Stranger to) at apart is = absurd cc
 
 -- of the units that go into the bag where bytes come at a controller, each is made for no channel, or is one that it

@@ -16,7 +16,7 @@ use Rattle.step_notes.specs.MemberNotes.{turn_units}
 use Rattle.step_notes.specs.Records.{Book, Forward, OfMember, Sent, blank}
 use Rattle.world_moves.specs.declared.bag.BagUnit.{BagUnit}
 use Rattle.world_moves.specs.declared.links.EndId.{EndId}
-use Rattle.world_moves.specs.declared.links.EndId.TheVariants.{Controller, Member, Client}
+use Rattle.world_moves.specs.declared.links.EndId.TheVariants.{Controller, Member, Client, Station}
 use Rattle.world_moves.specs.declared.moves.Move.{Move}
 use Rattle.world_moves.specs.declared.plan.Plan.{Plan}
 use Rattle.world_moves.specs.declared.state.State.{State}
@@ -106,6 +106,7 @@ pub bytes_few : (end : EndId) (w : Delivery) (piece : List ℕ) (s after : State
 bytes_few (Controller at) w piece s after b more few = controller_few (slice_get s.ends.controllers at) at w piece s after b more few
 bytes_few (Member at) w piece s after b more few = member_few (slice_get s.ends.members at) at w piece s after b more few
 bytes_few (Client at) w piece s after b more few = client_few (slice_get s.ends.clients at) at w piece s after b more few
+bytes_few (Station at) w piece s after b more few = omega (arith, more, few)
 
 -- what an end does adds units
 no_fewer : (end : EndId) (what : Event) (s : State) → length s.bag ≤ length (hear_and_act end what s).state.bag
@@ -160,5 +161,5 @@ none_left (what ∷ moves) w b all =
 -- in every run each unit of the bag has its mark
 pub each_marked : (plan : Plan) (moves : List Move) → EachUnitIsMarked (past plan moves)
 each_marked plan moves =
-    let after : HoldsAfterMoves ⊥ AreFew plan moves = moves_keep ⊥ AreFew few_keep plan moves (λ none. absurd none) (λ on. omega arith) in
+    let after : HoldsAfterMoves ⊥ AreFew plan moves = moves_keep ⊥ AreFew few_keep (λ n at station plan s b is few. few) plan moves (λ none. absurd none) (λ on. omega arith) in
     omega (arith, after.holds, none_left moves (first_world plan) blank (omega arith))

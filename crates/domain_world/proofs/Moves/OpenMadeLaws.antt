@@ -10,7 +10,7 @@ use Rattle.world_moves.specs.declared.bag.BagUnit.{BagUnit}
 use Rattle.world_moves.specs.declared.links.EndId.{EndId}
 use Rattle.world_moves.specs.declared.links.OpenLink.{OpenLink}
 use Rattle.world_moves.specs.declared.links.Route.{Route}
-use Rattle.world_moves.specs.declared.links.Route.TheVariants.{ToMember, ToController, Between, Stranger}
+use Rattle.world_moves.specs.declared.links.Route.TheVariants.{ToMember, ToController, Between, Stranger, FromStation}
 use Rattle.world_moves.specs.Links.{OpenMap, accepted, acceptor_of, answered, dialler_of, end_if, forget_end, forgotten_by, hearer_of, hearer_on, open_if}
 use Rattle.wire_base.proofs.ListLaws.{all_weaker, got_append, got_last}
 use Rattle.world_moves.proofs.LinkFrameLaws.{IsOnLink, LinkFact, StaysAlways, StaysOnLinks}
@@ -110,6 +110,7 @@ abbrev pub IsApart : Route → Type 0
 IsApart (ToMember client member) = Unit {0}
 IsApart (ToController member controller) = Unit {0}
 IsApart (Between from to) = ⊥
+IsApart (FromStation station controller) = ⊥
 IsApart (Stranger to) = Unit {0}
 
 -- a link that isn't between controllers, with the end at one of its sides

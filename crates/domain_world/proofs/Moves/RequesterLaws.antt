@@ -15,7 +15,7 @@ use Rattle.member_server.specs.declared.plan.MemberPlan.{MemberPlan}
 use Rattle.member_server.specs.declared.state.Running.{Running}
 use Rattle.step_notes.specs.Records.{OfMember, RequesterId, same_requester}
 use Rattle.world_moves.specs.declared.links.EndId.{EndId}
-use Rattle.world_moves.specs.declared.links.EndId.TheVariants.{Client, Controller, Member}
+use Rattle.world_moves.specs.declared.links.EndId.TheVariants.{Client, Controller, Member, Station}
 use Rattle.world_moves.specs.declared.plan.Plan.{Plan}
 use Rattle.world_moves.specs.declared.state.State.{State}
 use Rattle.world_moves.specs.Ends.{EndStates, with_member}
@@ -50,7 +50,7 @@ asked_same (OfMember k) plans ends later same = controller_same (slice_get plans
 pub asked_stays : (who : RequesterId) (s t : State) → AreAlikeButSecrets s.member_plans t.member_plans → SameEnds s.ends t.ends → controller_asked who t ≡ controller_asked who s
 asked_stays (OfMember k) s t plans same =
     controllers_alike s.member_plans t.member_plans k t.ends plans
-    ∙ controller_same (slice_get s.member_plans k) s.ends t.ends (record { controllers = sym same.controllers; members = sym same.members; clients = sym same.clients })
+    ∙ controller_same (slice_get s.member_plans k) s.ends t.ends (record { controllers = sym same.controllers; members = sym same.members; clients = sym same.clients; stations = sym same.stations })
 
 -- ---- the end at which it asks
 
@@ -68,6 +68,9 @@ not_controller (OfMember k) at = refl
 
 pub not_client : (who : RequesterId) (at : ℕ) → asks_at who (Client at) ≡ false
 not_client (OfMember k) at = refl
+
+pub not_station : (who : RequesterId) (at : ℕ) → asks_at who (Station at) ≡ false
+not_station (OfMember k) at = refl
 
 pub not_that : (who : RequesterId) (at : ℕ) → who ≢ OfMember at → asks_at who (Member at) ≡ false
 not_that (OfMember k) at differs = by (at == k) refl
@@ -141,7 +144,7 @@ pub asked_put : (P : RequesterId → ℕ → Option Running → Type 0) (plans :
     (who : RequesterId) → P who (asked_in who plans (with_member at new ends)) (asker_in who (with_member at new ends))
 asked_put P plans at new ends none here others who =
     subst (λ (c : ℕ). P who c (asker_in who (with_member at new ends)))
-    (sym (asked_same who plans ends (with_member at new ends) (record { controllers = refl; members = length-set ends.members at new; clients = refl })))
+    (sym (asked_same who plans ends (with_member at new ends) (record { controllers = refl; members = length-set ends.members at new; clients = refl; stations = refl })))
     (asker_put (λ (one : RequesterId) (r : Option Running). P one (asked_in one plans ends) r) at new ends (λ one. none one (asked_in one plans ends)) here others who)
 
 -- what holds of a requester that is made anew holds of each in the first world

@@ -13,7 +13,7 @@ use Rattle.world_moves.specs.Forms.{HasMoveForm, IsBlock, IsByte}
 use Rattle.secret_change.specs.Secrets.{IsSecret}
 use Rattle.world_moves.specs.declared.moves.Move.{Move}
 use Rattle.world_moves.specs.declared.moves.Move.TheVariants as move
-use Rattle.domain_world.specs.Accepting.Runs.{IsQuiet, IsQuietLink, IsQuietTurn}
+use Rattle.domain_world.specs.Accepting.Runs.{NothingIsOpen, IsQuietLink, IsQuietTurn}
 use Rattle.domain_world.specs.Past.{past}
 use Rattle.domain_world.specs.Schedules.{OfSchedules}
 use Rattle.domain_world.proofs.Frames.AloneStepLaws.{fresh_by, renew_alone_by as renew_by, renew_controller_alone as renew_controller, renewed_alone as renewed}
@@ -54,7 +54,7 @@ use Rattle.world_moves.specs.declared.links.EndId.TheVariants.{Member, Client}
 use Rattle.world_moves.specs.declared.links.LinkKind.{LinkKind}
 use Rattle.world_moves.specs.declared.links.LinkKind.TheVariants as kind
 use Rattle.world_moves.specs.declared.links.Route.{Route}
-use Rattle.world_moves.specs.declared.links.Route.TheVariants.{ToMember, ToController, Between, Stranger}
+use Rattle.world_moves.specs.declared.links.Route.TheVariants.{ToMember, ToController, Between, Stranger, FromStation}
 use Rattle.world_moves.specs.declared.plan.Plan.{Plan}
 use Rattle.world_moves.specs.declared.state.State.{State}
 use Rattle.world_moves.specs.Acting.{Given, perform_quietly, unit_on, units_of_action, plans_after}
@@ -172,12 +172,14 @@ members_route : (route : Route) (k : ℕ) → dialler_of route ≡ Some (Member 
 members_route (ToController other controller) k is = (controller, ap (λ (n : ℕ). ToController n controller) (let same : other ≡ k = cc in same))
 members_route (ToMember one server) k is = absurd cc
 members_route (Between from to) k is = absurd cc
+members_route (FromStation station controller) k is = absurd cc
 members_route (Stranger to) k is = absurd cc
 
 pub clients_route : (route : Route) (k : ℕ) → dialler_of route ≡ Some (Client k) → (server : ℕ) × (route ≡ ToMember k server)
 clients_route (ToMember other server) k is = (server, ap (λ (n : ℕ). ToMember n server) (let same : other ≡ k = cc in same))
 clients_route (ToController one controller) k is = absurd cc
 clients_route (Between from to) k is = absurd cc
+clients_route (FromStation station controller) k is = absurd cc
 clients_route (Stranger to) k is = absurd cc
 
 -- the end dialled the link that is answered
@@ -251,6 +253,7 @@ members_link : (route : Route) → kind_of route ≡ kind.ToController → (memb
 members_link (ToController member controller) is = (member, (controller, refl))
 members_link (ToMember one server) is = absurd (let never = is in cc)
 members_link (Between from to) is = absurd (let never = is in cc)
+members_link (FromStation station controller) is = absurd (let never = is in cc)
 members_link (Stranger to) is = absurd (let never = is in cc)
 
 -- the units that an action sends are bytes, and whole where it goes to a controller
@@ -525,7 +528,7 @@ quiet_links links (Some one) running is well =
     subst (λ (x : ControllerRunning). AllByRecursion (IsQuietLink links) x.links) (some_is one running is)
     (entries_so (ListensWell (IsOfMember links) (IsMade links)) (λ number link. IsQuietLink links (number, link)) (λ number link one own. (one.rest own, one.joiner own)) one.links well)
 
-pub is_quiet : (s : State) → QuietState s → IsQuiet s
+pub is_quiet : (s : State) → QuietState s → NothingIsOpen s
 is_quiet s quiet = record {
   bag = λ n unit there is. let send : IsWholeSend unit.bytes = (quiet.bag n unit there).0 is in
       (record { frames = send.frames; unit = send.unit; heard = send.heard }, send.few);
@@ -533,5 +536,5 @@ is_quiet s quiet = record {
   members = λ k m running there is. quiet_running s.links k m.running running is (quiet.members k m there);
 }
 
-pub stands_quiet : OfSchedules (λ plan moves. IsQuiet (past plan moves).world.state)
+pub stands_quiet : OfSchedules (λ plan moves. NothingIsOpen (past plan moves).world.state)
 stands_quiet plan moves nobody is = is_quiet (past plan moves).world.state (quiet_after plan moves nobody is).holds

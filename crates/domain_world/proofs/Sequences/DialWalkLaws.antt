@@ -24,7 +24,7 @@ use Rattle.domain_world.proofs.Frames.MoveFrameLaws.{HoldsAfterMoves}
 use Rattle.domain_world.proofs.Frames.MoveKeepLaws.{How, KeepsMovesBy, MoveFact, NoSide, every}
 use Rattle.domain_world.proofs.Frames.PlainFrameLaws.{moves_keep_plain}
 use Rattle.world_moves.specs.declared.plan.Plan.{Plan}
-use Rattle.world_moves.specs.Plain.{NothingSeals, plain_world}
+use Rattle.world_moves.specs.Plain.{IsPlainPlan, plain_world}
 
 -- What is to hold: of whose dial is answered, and of what was given and isn't done yet; of the members' plans, the
 -- ends, the dials and the draws; and of what was given in this move, and the turns that are written down.
@@ -92,8 +92,8 @@ dials_keep how kinds Holds keeps Known = record {
   over = λ n at on next s given b none holds. keeps.over s given b.turns holds;
 }
 
--- what holds at first and through each step holds after every run in which nothing seals
-pub dials_after : (Holds : DialFact) → KeepsDials every Holds → (plan : Plan) (moves : List Move) → NothingSeals plan → AtState Holds None [] (plain_world plan).state [] [] →
+-- what holds at first and through each step holds after every run of a plain plan
+pub dials_after : (Holds : DialFact) → KeepsDials every Holds → (plan : Plan) (moves : List Move) → IsPlainPlan plan → AtState Holds None [] (plain_world plan).state [] [] →
     AtState Holds None [] (past plan moves).world.state [] (past plan moves).book.turns
 dials_after Holds keeps plan moves nothing holds =
     let after : HoldsAfterMoves ⊥ (OfDials Holds) plan moves =

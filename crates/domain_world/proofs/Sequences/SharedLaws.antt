@@ -28,7 +28,7 @@ use Rattle.step_notes.specs.Records.{InUnit, Judging, Outside, Sent, Source, uni
 use Rattle.world_moves.specs.Draws.{DrawsDiffer}
 use Rattle.step_notes.specs.ReplySends.{IsReplyOfCall}
 use Rattle.domain_world.specs.Claims.Replies.{IsReplyOfOne}
-use Rattle.domain_world.specs.Accepting.Answered.{AnswersAreHeard, IsProved}
+use Rattle.domain_world.specs.Accepting.Answered.{AnswersAreHeard, AnswersAreJudged}
 use Rattle.domain_world.proofs.Judgements.ReplyLaws.{replies_carry}
 use Rattle.domain_world.proofs.Judgements.UnclashedLaws.{passes_unclashed}
 use Rattle.domain_world.proofs.Calls.MarkWayLaws.{marks_have_their_way}
@@ -38,7 +38,7 @@ use Rattle.domain_world.specs.Claims.{IsClear, moved_on, passed_on, same_unit, j
 use Rattle.domain_world.specs.Claims.SharedSequences.{IsBeforeTurn, ChannelIsKept, SequencesAreOwn, SequencesAreShared, any_foreign, is_foreign, timestamps_on}
 use Rattle.domain_world.specs.Past.{Past, past, plain_form}
 use Rattle.domain_world.proofs.Acceptance.AnsweredLaws.{AreInUnit, IsMade, StandsFor, both_true, channel_there, in_unit, made_at, no_twice, passed_of, right_at, unit_same, came_in}
-use Rattle.domain_world.proofs.Acceptance.AnsweredRunLaws.{is_proved}
+use Rattle.domain_world.proofs.Acceptance.AnsweredRunLaws.{answers_judged}
 use Rattle.domain_world.proofs.Acceptance.CarriedLaws.{one_unit, replies_to}
 use Rattle.domain_world.proofs.Acceptance.UnitLaws.{heard_in}
 use Rattle.domain_world.proofs.Sequences.Own.OwnRunLaws.{sequences_own}
@@ -85,7 +85,7 @@ both_so true true is also = refl
 both_so false other is also = absurd (let x = is in cc)
 both_so true false is also = absurd (let x = also in cc)
 
-module _ (past : Past) (known : IsProved past) (heard : AnswersAreHeard past) (clear : IsClear past.book) (units : MarkedUnitsAreWhole past) (judged : JudgedAsCarried past)
+module _ (past : Past) (known : AnswersAreJudged past) (heard : AnswersAreHeard past) (clear : IsClear past.book) (units : MarkedUnitsAreWhole past) (judged : JudgedAsCarried past)
     (stamped : CallsAreStamped past) (channel : ChannelIdentity) (turn : Option Pending) (timestamps : List ℕ) (calls : CallsOfTurns past channel turn timestamps)
     (own : any_foreign channel past.book.judged ≡ false) where
   abbrev all_judged : List Judging
@@ -249,7 +249,7 @@ kept_seed p controller computer c left follow keeps =
     let kept = subst (λ (r : Option ControllerRunning). AreKeptIf p.book.judged left controller r) keeps.runs (follow.each controller keeps.state keeps.at) in
     ((kept.each computer).channels c keeps.kept).0
 
-pub sequence_shared : (p : Past) → IsProved p → AnswersAreHeard p → IsClear p.book → MarkedUnitsAreWhole p → JudgedAsCarried p → CallsAreStamped p → TurnsAreCalled p →
+pub sequence_shared : (p : Past) → AnswersAreJudged p → AnswersAreHeard p → IsClear p.book → MarkedUnitsAreWhole p → JudgedAsCarried p → CallsAreStamped p → TurnsAreCalled p →
     SequencesAreOwn p → (left : List (List ℕ)) → SeedsFollow p.book.judged left p.world.state.ends.controllers → SequencesAreShared p
 sequence_shared p known heard clear units judged stamped called own left follow who = record {
   own = λ channel o stands. own who channel o stands;
@@ -266,7 +266,7 @@ sequence_shared p known heard clear units judged stamped called own left follow 
 pub sequences_follow : SequencesFollow
 sequences_follow plan moves nobody heard stamped called clear =
     let differ : DrawsDiffer (past plan moves).world = draws_differ plan moves in
-    sequence_shared (past plan moves) (is_proved plan moves nobody differ) (heard_in plan moves nobody heard differ) clear heard.whole heard.judged stamped called (sequences_own plan moves nobody.plain)
+    sequence_shared (past plan moves) (answers_judged plan moves nobody differ) (heard_in plan moves nobody heard differ) clear heard.whole heard.judged stamped called (sequences_own plan moves nobody.plain)
     (past plan moves).world.state.chances.left (seeds_kept plan moves nobody.plain)
 
 -- ---- a call whose answer was taken

@@ -27,7 +27,7 @@ use Rattle.world_moves.specs.Acting.{Given, forget, given_by, is_of_other, perfo
 use Rattle.world_moves.specs.Ends.{EndStates, EndStep, actions_by, fresh_controller}
 use Rattle.world_moves.specs.Links.{same_end}
 use Rattle.world_moves.specs.Moving.{changed}
-use Rattle.world_moves.specs.Plain.{NothingSeals, hear_plain as hear, renewed_plain as renewed}
+use Rattle.world_moves.specs.Plain.{IsPlainPlan, hear_plain as hear, plain_world, renewed_plain as renewed}
 use Rattle.world_moves.specs.World.{first_controllers}
 use Rattle.world_moves.proofs.ChangeLaws.{by_change, text_begun}
 use Rattle.world_moves.proofs.EndKindLaws.{IfController}
@@ -259,7 +259,7 @@ controllers_first hands_on (table ∷ tables) (name ∷ names) at zero c there =
 controllers_first hands_on (table ∷ tables) (name ∷ names) at (suc k) c there = controllers_first hands_on tables names at k c there
 
 -- after every run at most one turn is out at each controller
-pub one_trust_turn : (plan : Plan) (moves : List Move) → NothingSeals plan → (at : ℕ) (c : ControllerState) (running : Running) →
+pub one_trust_turn : (plan : Plan) (moves : List Move) → IsPlainPlan plan → (at : ℕ) (c : ControllerState) (running : Running) →
     slice_get (past plan moves).world.state.ends.controllers at ≡ Some c → c.running ≡ Some running → HasOneTrustTurnOut (past plan moves).world.state at c
 one_trust_turn plan moves nothing at c running there runs =
     let s : State = (past plan moves).world.state in

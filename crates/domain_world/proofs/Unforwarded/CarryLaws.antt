@@ -7,7 +7,7 @@ use Rattle.world_moves.specs.declared.plan.Plan.{Plan}
 use Rattle.world_moves.specs.Forms.{IsSchedule}
 use Rattle.world_moves.specs.Unforwarded.{IsUnforwarded, alone_plan}
 use Rattle.world_moves.specs.World.{World}
-use Rattle.world_moves.specs.Plain.{NothingSeals}
+use Rattle.world_moves.specs.Plain.{IsPlainPlan}
 use Rattle.domain_world.specs.Accepting.Answered.{CallsAskForMessages}
 use Rattle.domain_world.specs.Accepting.Carried.{MarkedUnitsAreWhole}
 use Rattle.domain_world.specs.Accepting.Sequences.{RepliesAnswerCalls, TurnsAreCalled}
@@ -30,7 +30,7 @@ use Rattle.domain_world.proofs.Unforwarded.ErasedLaws.{runs_alone}
 use Rattle.domain_world.proofs.Unforwarded.RunSeenLaws.{complete_so, one_by_one_so, schedule_seen}
 use Rattle.domain_world.proofs.Unforwarded.SeenLaws.{all_so, answered_so, called_so, once_so, only_so, opened_by_so, opened_marks_so, reply_marks_so, seen, shared_so}
 
-module _ (plan : Plan) (moves : List Move) (nothing : NothingSeals plan) (is : IsUnforwarded plan moves) (alone : IsProvedAlone (alone_plan plan) moves) where
+module _ (plan : Plan) (moves : List Move) (nothing : IsPlainPlan plan) (is : IsUnforwarded plan moves) (alone : IsProvedAlone (alone_plan plan) moves) where
   abbrev run_seen : Past
   run_seen = past plan moves
 

@@ -29,7 +29,7 @@ use Rattle.step_notes.specs.Served.{units_if_taken}
 use Rattle.step_notes.proofs.Controllers.TrustNoteLaws.{notes_alike}
 use Rattle.world_moves.specs.declared.bag.BagUnit.{BagUnit}
 use Rattle.world_moves.specs.declared.links.EndId.{EndId}
-use Rattle.world_moves.specs.declared.links.EndId.TheVariants.{Controller, Member, Client}
+use Rattle.world_moves.specs.declared.links.EndId.TheVariants.{Controller, Member, Client, Station}
 use Rattle.world_moves.specs.declared.moves.Move.{Move}
 use Rattle.world_moves.specs.declared.moves.Move.TheVariants as move
 use Rattle.world_moves.specs.declared.plan.Plan.{Plan}
@@ -42,7 +42,7 @@ use Rattle.world_moves.specs.Links.{handed_links, hearer_of, links_of}
 use Rattle.world_moves.specs.Moving.{act, come_by, come_on_own, deliver_by, deliver_on, deliver_unit, hand_on, onward_by, settle}
 use Rattle.world_moves.specs.Unforwarded.{IsUnforwarded, alone_plan, erased, erased_controller, erased_ends, erased_world}
 use Rattle.world_moves.specs.World.{World, actions_of_run, first_world, happens, run, run_of}
-use Rattle.world_moves.specs.Plain.{NothingSeals}
+use Rattle.world_moves.specs.Plain.{IsPlainPlan}
 use Rattle.domain_world.specs.Past.{Delivery, answers_of, at_controller, beside_mark, book, controller_number, controller_of, controller_of_plan, is_sent_on, mark_or, note, note_answers, note_at, note_chosen, note_client, note_coming, note_controller, note_deliver, note_given, note_hand, note_member, note_messages, note_on, note_onward, note_own, note_piece, note_pieces, note_turns, note_unit, numbers_on, past, running_in, sent_at, still_waits, turns_by, turns_in, waits_at, with_marks, with_taken}
 use Rattle.domain_world.proofs.Frames.AloneNoteLaws.{answers_alike, none_asked, quiet_noted}
 use Rattle.domain_world.proofs.Unforwarded.ErasedLaws.{IsFine, IsSame, IsStill, as_many, controller_same, first_erased, first_still, fine_first, get_mapped, happens_same, move_same, part_erased_answer, peer_same, piece_fine, piece_same, told_later}
@@ -121,6 +121,7 @@ end_noted (Some (Controller at)) w piece s after b still fine =
     ∙ controller_noted (slice_get s.ends.controllers at) at w piece s after b (λ c is. (still.1 at c is, controller_same at (event.Bytes w.link piece) s c is still fine))
 end_noted (Some (Member at)) w piece s after b still fine = member_noted (slice_get s.ends.members at) at w piece s after b
 end_noted (Some (Client at)) w piece s after b still fine = client_noted (slice_get s.ends.clients at) at w piece s b
+end_noted (Some (Station at)) w piece s after b still fine = refl
 
 -- ---- bytes come
 
@@ -195,6 +196,7 @@ turn_same (Member at) (action.Close link cause) after = refl
 turn_same (Member at) (action.Told link outcome) after = refl
 turn_same (Member at) (action.Judged how) after = refl
 turn_same (Client at) what after = refl
+turn_same (Station at) what after = refl
 
 turns_same : (given : Given) (after : State) → turns_in given (erased after) ≡ turns_in given after
 turns_same [] after = refl
@@ -253,6 +255,6 @@ book_same (what ∷ moves) w b still told some =
     ∙ book_same moves (happens w what) (note w what b) (move_same what w.state still fine).still (told_later what moves w told) some
 
 -- the run as it is written down, where nobody can be asked
-pub books_alone : (plan : Plan) (moves : List Move) → NothingSeals plan → IsUnforwarded plan moves → (past (alone_plan plan) moves).book ≡ (past plan moves).book
+pub books_alone : (plan : Plan) (moves : List Move) → IsPlainPlan plan → IsUnforwarded plan moves → (past (alone_plan plan) moves).book ≡ (past plan moves).book
 books_alone plan moves nothing is =
     ap (λ (w : World). book moves w blank) (first_erased plan nothing) ∙ book_same moves (first_world plan) blank (first_still plan nothing) is.told is.left

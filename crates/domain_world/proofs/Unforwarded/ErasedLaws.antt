@@ -1,6 +1,6 @@
 -- A world in which no call comes for a trusted domain goes on as one whose controllers ask nobody, but for what its
 -- controllers keep of those that could be asked. It serves `claims_hold_of_runs`.
-use Rattle.std.proofs.Common.{◌≡◌, ◌≤◌, ◌+◌, ◌++◌, ℕ, zero, suc, Bool, true, false, List, [], ◌∷◌, length, map, option_map, Option, Some, None, Result, Ok, Err, inl, inr, slice_get, slice_set, refl, sym, ap, ap₂, subst, ◌∙◌, arith, length-append}
+use Rattle.std.proofs.Common.{◌≡◌, ◌≤◌, ◌+◌, ◌-◌, ◌++◌, ℕ, zero, suc, Bool, true, false, List, [], ◌∷◌, length, map, option_map, Option, Some, None, Result, Ok, Err, inl, inr, slice_get, slice_set, refl, sym, ap, ap₂, subst, ◌∙◌, arith, length-append}
 use Rattle.std.proofs.lemmas.List.{length-map}
 use Rattle.wire_base.specs.Maps.{lookup, same_number}
 use Rattle.account_table.specs.AccountTable.{AccountTable}
@@ -24,7 +24,7 @@ use Rattle.member_server.specs.State.{State as MemberState}
 use Rattle.member_server.specs.declared.plan.MemberPlan.{MemberPlan}
 use Rattle.world_moves.specs.declared.bag.BagUnit.{BagUnit}
 use Rattle.world_moves.specs.declared.links.EndId.{EndId}
-use Rattle.world_moves.specs.declared.links.EndId.TheVariants.{Controller, Member, Client}
+use Rattle.world_moves.specs.declared.links.EndId.TheVariants.{Controller, Member, Client, Station}
 use Rattle.world_moves.specs.declared.links.OpenLink.{OpenLink}
 use Rattle.world_moves.specs.declared.links.Route.{Route}
 use Rattle.world_moves.specs.declared.links.Route.TheVariants.{Stranger}
@@ -36,15 +36,17 @@ use Rattle.world_moves.specs.declared.state.WaitingDial.{WaitingDial}
 use Rattle.world_moves.specs.Acting.{Acted, Given, AfterHearing, close_open, closed_at, done, forget, given_by, hear, hear_and_act, hear_and_act_if, heard_by, link_closed, nothing_done, perform, perform_all, perform_all_quietly, perform_by, perform_quietly, piece_comes, pieces_come, shut_link, then_act}
 use Rattle.world_moves.specs.Bag.{first_waiting, pieces_of}
 use Rattle.world_moves.specs.Choosing.{chosen_in, chosen_place}
-use Rattle.world_moves.specs.Ends.{EndStates, EndStep, acceptors_in, actions_by, change_by, client_step, controller_done, controller_step, count_of, end_at, end_in, end_step, fresh_controller, member_step, renew_client, renew_controller, renew_member}
+use Rattle.world_moves.specs.Ends.{EndStates, EndStep, acceptors_in, actions_by, change_by, client_step, controller_done, controller_step, count_of, end_at, end_in, end_step, fresh_controller, member_step, renew_client, renew_controller, renew_member, renew_station, starters_in, station_step}
 use Rattle.world_moves.specs.Links.{acceptor_of, handed_links, hearer_of, hearer_on, links_of, other_hearer}
-use Rattle.world_moves.specs.Moving.{act, answer_by, answered_link, begun, change_at, changed, changed_by, come_by, come_on_own, connect_by, connect_first, deliver_by, deliver_on, deliver_unit, end_of_peer, fail_first, hand_on, lose_by, onward_by, open_link, renew, restart_at, restart_by, route_to, settle, shut_at, shut_by, start_at, start_by, stranger_at, stranger_by, tick, with_link, without_first}
-use Rattle.world_moves.specs.Plain.{CantSeal, NothingSeals, plain_controller_step}
+use Rattle.world_moves.specs.Moving.{act, answer_by, answered_link, begun, change_at, changed, changed_by, come_by, come_on_own, connect_by, connect_first, deliver_by, deliver_on, deliver_unit, end_of_peer, fail_first, hand_on, lose_by, onward_by, open_link, renew, restart_at, restart_by, route_to, settle, shut_at, shut_by, start_at, start_by, start_station_by, station_begun, stranger_at, stranger_by, tick, with_link, without_first}
+use Rattle.world_moves.specs.Plain.{CantSeal, IsPlainPlan, plain_controller_step}
 use Rattle.world_moves.specs.Unforwarded.{RunsAlone, alone_plan, erased, erased_controller, erased_ends, erased_world}
 use Rattle.world_moves.specs.World.{World, actions_in, actions_of_run, first_controllers, first_world, given_at, happens, run, run_of}
 use Rattle.world_moves.proofs.PlainLaws.{controller_plain, of_found}
 use Rattle.world_moves.proofs.StateFrameLaws.{HoldsActing, HoldsMoving, StateFact, actions_so, closed_so, hears_so, move_so, pieces_so}
 use Rattle.domain_world.proofs.Frames.AnyStepLaws.{any_rests}
+use Rattle.interactive_station.specs.State.{StationState}
+use Rattle.interactive_station.specs.declared.plan.StationPlan.{StationPlan}
 
 -- ---- what is left out of moves
 
@@ -130,6 +132,7 @@ pub moves_shrink : HoldsMoving Shrinks
 moves_shrink = record {
   acting = shrinks;
   begins = λ client plan s some. some;
+  starts = λ station plan s some. some;
   opens = λ route s some. some;
   answers = λ link there s is some. some;
   forgets = λ end s some. some;
@@ -228,6 +231,11 @@ client_found : (found : Option ClientState) (at : ℕ) (what : Event) (now : ℕ
 client_found None at what now ends chances still = record { is = refl; still = still }
 client_found (Some c) at what now ends chances still = record { is = refl; still = still }
 
+station_found : (found : Option StationState) (at : ℕ) (what : Event) (now : ℕ) (ends : EndStates) (chances : Drawing) → AreStill ends.controllers →
+    EndsStill (station_step found at what now ends chances) (station_step found at what now (erased_ends ends) chances)
+station_found None at what now ends chances still = record { is = refl; still = still }
+station_found (Some t) at what now ends chances still = record { is = refl; still = still }
+
 -- a controller that waits for no other one's answer can't seal
 steps_plainly : (ends : EndStates) (at : ℕ) (what : Event) (now : ℕ) (chances : Drawing) → AreStill ends.controllers →
     controller_step (slice_get ends.controllers at) at what now ends chances ≡ plain_controller_step (slice_get ends.controllers at) at what now ends chances
@@ -262,6 +270,7 @@ ends_still (Controller at) what now ends chances still told some =
     (sym (get_mapped erased_controller ends.controllers at)) (controller_still ends at what now chances still told some)
 ends_still (Member at) what now ends chances still told some = member_found (slice_get ends.members at) at what now ends chances still
 ends_still (Client at) what now ends chances still told some = client_found (slice_get ends.clients at) at what now ends chances still
+ends_still (Station at) what now ends chances still told some = station_found (slice_get ends.stations at) at what now ends chances still
 
 record HearsStill (h other : AfterHearing) : Type 0 where
   is : other ≡ erased_heard h
@@ -441,8 +450,16 @@ hand_same (Some link) back bytes s still fine = piece_same back link bytes s sti
 
 -- ---- links
 
+station_by_same : (plan : Option StationPlan) (station : ℕ) (s : State) → IsStill s → IsFine (start_station_by plan station s) →
+    IsSame (start_station_by plan station s) (start_station_by plan station (erased s))
+station_by_same None station s still fine = none_done s still
+station_by_same (Some plan) station s still fine =
+    done_same (Station station) (station_begun station plan (forget (Station station) s)) (station_begun station plan (forget (Station station) (erased s))) fine
+    (λ told some. record { is = refl; still = still })
+
 start_by_same : (plan : Option ClientPlan) (client : ℕ) (s : State) → IsStill s → IsFine (start_by plan client s) → IsSame (start_by plan client s) (start_by plan client (erased s))
-start_by_same None client s still fine = none_done s still
+start_by_same None client s still fine =
+    station_by_same (slice_get s.station_plans (client - length s.client_plans)) (client - length s.client_plans) s still fine
 start_by_same (Some plan) client s still fine =
     done_same (Client client) (begun client plan (forget (Client client) s)) (begun client plan (forget (Client client) (erased s))) fine (λ told some. record { is = refl; still = still })
 
@@ -462,7 +479,7 @@ pub as_many : (ends : EndStates) → length (erased_ends ends).controllers ≡ l
 as_many ends = length-map ends.controllers erased_controller
 
 pub end_same : (number : ℕ) (ends : EndStates) → end_at number (erased_ends ends) ≡ end_at number ends
-end_same number ends = ap (λ (controllers : ℕ). end_in number controllers (length ends.members) (length ends.clients)) (as_many ends)
+end_same number ends = ap (λ (controllers : ℕ). end_in number controllers (length ends.members) (length ends.clients) (length ends.stations)) (as_many ends)
 
 pub peer_same : (peer : List ℕ) (ends : EndStates) → end_of_peer peer (erased_ends ends) ≡ end_of_peer peer ends
 peer_same [] ends = refl
@@ -559,6 +576,10 @@ renew_client_same : (found : Option ClientPlan) (at : ℕ) (ends : EndStates) �
 renew_client_same None at ends still = record { is = refl; still = still }
 renew_client_same (Some plan) at ends still = record { is = refl; still = still }
 
+renew_station_same : (found : Option StationPlan) (at : ℕ) (ends : EndStates) → AreStill ends.controllers → RenewsStill (renew_station found at ends) (renew_station found at (erased_ends ends))
+renew_station_same None at ends still = record { is = refl; still = still }
+renew_station_same (Some plan) at ends still = record { is = refl; still = still }
+
 renew_same : (end : EndId) (s : State) → IsStill s → RenewsStill (renew end s) (renew end (erased s))
 renew_same (Controller at) s still =
     subst (λ (seals : Bool). RenewsStill (renew_controller s.hands_on seals (slice_get s.ends.controllers at) at s.ends)
@@ -567,6 +588,7 @@ renew_same (Controller at) s still =
     (sym (get_mapped erased_controller s.ends.controllers at)) (renew_found s.hands_on (slice_get s.ends.controllers at) at s.ends still.1))
 renew_same (Member at) s still = renew_member_same (slice_get s.member_plans at) at s.ends still.1
 renew_same (Client at) s still = renew_client_same (slice_get s.client_plans at) at s.ends still.1
+renew_same (Station at) s still = renew_station_same (slice_get s.station_plans at) at s.ends still.1
 
 restart_by_same : (end : Option EndId) (s : State) → IsStill s → IsSame (nothing_done (restart_by end s)) (nothing_done (restart_by end (erased s)))
 restart_by_same None s still = none_done s still
@@ -583,7 +605,7 @@ restart_at_same (Some number) s still =
 
 restart_same : (number : ℕ) (s : State) → IsStill s → IsSame (act s (move.Restart number)) (act (erased s) (move.Restart number))
 restart_same number s still =
-    subst (λ (many : ℕ). IsSame (act s (move.Restart number)) (nothing_done (restart_at (chosen_place number (many + length s.ends.members + length s.ends.clients)) (erased s)))) (sym (as_many s.ends))
+    subst (λ (many : ℕ). IsSame (act s (move.Restart number)) (nothing_done (restart_at (chosen_place number (many + length s.ends.members + length s.ends.clients + length s.ends.stations)) (erased s)))) (sym (as_many s.ends))
     (restart_at_same (chosen_place number (count_of s.ends)) s still)
 
 -- ---- a member begins to change its secret
@@ -601,7 +623,7 @@ change_same (Some at) secret s still fine =
 -- ---- a move
 
 pub move_same : (what : Move) (s : State) → IsStill s → IsFine (act s what) → IsSame (act s what) (act (erased s) what)
-move_same (move.Start number) s still fine = start_same (chosen_place number (length s.ends.clients)) s still fine
+move_same (move.Start number) s still fine = start_same (chosen_place number (starters_in s.ends)) s still fine
 move_same (move.Stranger number) s still fine = stranger_same number s still fine
 move_same move.Connect s still fine = connect_same (slice_get s.dials 0) (without_first s) still fine
 move_same move.FailDial s still fine = fail_same (slice_get s.dials 0) (without_first s) still fine
@@ -628,7 +650,7 @@ controllers_by : (hands_on seals : Bool) (tables : List AccountTable) (names : L
 controllers_by hands_on true tables names unsealed = absurd cc
 controllers_by hands_on false tables names unsealed = first_by hands_on tables names
 
-pub first_same : (plan : Plan) → NothingSeals plan → (first_world (alone_plan plan)).state ≡ erased (first_world plan).state
+pub first_same : (plan : Plan) → IsPlainPlan plan → (first_world (alone_plan plan)).state ≡ erased (first_world plan).state
 first_same plan nothing =
     ap (λ (controllers : List ControllerState). record (first_world (alone_plan plan)).state { ends = record (first_world plan).state.ends { controllers = controllers } })
     (sym (controllers_by plan.hands_on plan.seals plan.tables plan.controllers nothing.controllers))
@@ -640,7 +662,7 @@ still_each hands_on (table ∷ tables) (name ∷ names) zero c is =
     subst (λ (one : ControllerState). NoneIsAsked one.trusting) (let same : fresh_controller hands_on false table name ≡ c = cc in same) (fresh_still hands_on table name)
 still_each hands_on (table ∷ tables) (name ∷ names) (suc at) c is = still_each hands_on tables names at c is
 
-pub first_still : (plan : Plan) → NothingSeals plan → IsStill (first_world plan).state
+pub first_still : (plan : Plan) → IsPlainPlan plan → IsStill (first_world plan).state
 first_still plan nothing =
     (nothing.controllers, subst (λ (seals : Bool). AreStill (first_controllers plan.hands_on seals plan.tables plan.controllers)) (sym nothing.controllers) (still_each plan.hands_on plan.tables plan.controllers))
 
@@ -674,7 +696,7 @@ run_same (what ∷ moves) w still told some =
     ap (λ (later : World). run moves later) (happens_same what w still fine)
     ∙ run_same moves (happens w what) (move_same what w.state still fine).still (told_later what moves w told) some
 
-pub first_erased : (plan : Plan) → NothingSeals plan → first_world (alone_plan plan) ≡ erased_world (first_world plan)
+pub first_erased : (plan : Plan) → IsPlainPlan plan → first_world (alone_plan plan) ≡ erased_world (first_world plan)
 first_erased plan nothing = ap (λ (s : State). record { state = s; moves = 0; stopped = false }) (first_same plan nothing)
 
 pub runs_alone : RunsAlone

@@ -22,7 +22,7 @@ use Rattle.world_moves.specs.Links.{is_end}
 use Rattle.world_moves.specs.Moving.{act, end_of_peer}
 use Rattle.world_moves.specs.Unforwarded.{IsUnforwarded, alone_plan, erased, erased_controller, erased_world}
 use Rattle.world_moves.specs.World.{World, actions_of_run, first_controllers, first_ends, first_world, happens, run, run_of}
-use Rattle.world_moves.specs.Plain.{NothingSeals}
+use Rattle.world_moves.specs.Plain.{IsPlainPlan}
 use Rattle.domain_world.specs.Claims.Completeness.{CanSucceed, ComesOneAtATime, EachSucceeds, InEachState, IsQuiet, IsQuietAt, MayLogOnIn, OneAtATime, OwnKeysArrive, Succeeds, info_planned, members_of, started_in}
 use Rattle.domain_world.specs.Claims.OneByOne.{HasOwnMember, NoneClashes}
 use Rattle.domain_world.specs.Past.{Past, past}
@@ -50,7 +50,7 @@ goes_later what moves w goes = record {
 goes_same : (what : Move) (moves : List Move) (w : World) → GoesOn (what ∷ moves) w → erased_world (happens w what) ≡ happens (erased_world w) what
 goes_same what moves w goes = sym (happens_same what w goes.still (goes_fine what moves w goes))
 
-goes_first : (plan : Plan) (moves : List Move) → NothingSeals plan → IsUnforwarded plan moves → GoesOn moves (first_world plan)
+goes_first : (plan : Plan) (moves : List Move) → IsPlainPlan plan → IsUnforwarded plan moves → GoesOn moves (first_world plan)
 goes_first plan moves nothing is = record { still = first_still plan nothing; told = is.told; left = is.left }
 
 -- ---- one at a time
@@ -81,12 +81,13 @@ one_at_a_time (what ∷ moves) w goes quiet = (
 
 pub schedule_seen : (plan : Plan) (moves : List Move) → IsSchedule plan moves → IsSchedule (alone_plan plan) moves
 schedule_seen plan moves s = record {
-  start = record { tables = s.start.tables; clients = s.start.clients };
+  start = record { tables = s.start.tables; clients = s.start.clients; stations = s.start.stations };
   forms = record {
     tables = s.forms.tables;
     controllers = s.forms.controllers;
     members = s.forms.members;
     clients = s.forms.clients;
+    stations = s.forms.stations;
     now = s.forms.now;
     seed = s.forms.seed;
   };
@@ -95,7 +96,7 @@ schedule_seen plan moves s = record {
   move_forms = s.move_forms;
 }
 
-comes_seen : (plan : Plan) (moves : List Move) → NothingSeals plan → IsUnforwarded plan moves → ComesOneAtATime (past plan moves) moves → ComesOneAtATime (seen (past plan moves)) moves
+comes_seen : (plan : Plan) (moves : List Move) → IsPlainPlan plan → IsUnforwarded plan moves → ComesOneAtATime (past plan moves) moves → ComesOneAtATime (seen (past plan moves)) moves
 comes_seen plan moves nothing is comes = record {
   schedule = schedule_seen plan moves comes.schedule;
   plain = comes.plain;
@@ -136,7 +137,7 @@ as_many_first hands_on seals (table ∷ tables) (name ∷ names) = ap (λ (many 
 pub peer_seen : (peer : List ℕ) (plan : Plan) → end_of_peer peer (first_ends (alone_plan plan)) ≡ end_of_peer peer (first_ends plan)
 peer_seen [] plan = refl
 peer_seen (number ∷ []) plan =
-    ap (λ (controllers : ℕ). end_in number controllers (length (first_ends plan).members) (length (first_ends plan).clients)) (as_many_first plan.hands_on plan.seals plan.tables plan.controllers)
+    ap (λ (controllers : ℕ). end_in number controllers (length (first_ends plan).members) (length (first_ends plan).clients) (length (first_ends plan).stations)) (as_many_first plan.hands_on plan.seals plan.tables plan.controllers)
 peer_seen (number ∷ other ∷ more) plan = refl
 
 abbrev kept_if : Bool → MemberPlan → List MemberPlan → List MemberPlan
@@ -153,7 +154,7 @@ members_seen plan controller = members_same plan controller plan.members
 abbrev NamesApart : MemberPlan → MemberPlan → Type 0
 NamesApart one other = SameName one.computer other.computer → ⊥
 
-can_seen : (plan : Plan) (moves : List Move) (client : ℕ) → NothingSeals plan → IsUnforwarded plan moves → CanSucceed plan moves client → CanSucceed (alone_plan plan) moves client
+can_seen : (plan : Plan) (moves : List Move) (client : ℕ) → IsPlainPlan plan → IsUnforwarded plan moves → CanSucceed plan moves client → CanSucceed (alone_plan plan) moves client
 can_seen plan moves client nothing is can = record {
   task = can.task;
   is_task = can.is_task;
@@ -174,7 +175,7 @@ can_seen plan moves client nothing is can = record {
       (may_each can.controller (info_planned can.task) moves (first_world plan) (goes_first plan moves nothing is) can.may);
 }
 
-succeeds_so : (plan : Plan) (moves : List Move) (client : ℕ) (nothing : NothingSeals plan) (is : IsUnforwarded plan moves) (can : CanSucceed plan moves client) →
+succeeds_so : (plan : Plan) (moves : List Move) (client : ℕ) (nothing : IsPlainPlan plan) (is : IsUnforwarded plan moves) (can : CanSucceed plan moves client) →
     Succeeds (seen (past plan moves)) moves client (can_seen plan moves client nothing is can) → Succeeds (past plan moves) moves client can
 unfolding can_seen
 succeeds_so plan moves client nothing is can s = record { key = s.key; is_in = s.is_in; told = s.told }
@@ -182,7 +183,7 @@ succeeds_so plan moves client nothing is can s = record { key = s.key; is_in = s
 abbrev SucceedsIf : Past → List Move → ℕ → Type 0
 SucceedsIf p moves client = (can : CanSucceed p.plan moves client) → OwnKeysArrive p moves client can → Succeeds p moves client can
 
-pub complete_so : (plan : Plan) (moves : List Move) → NothingSeals plan → IsUnforwarded plan moves → EachSucceeds (seen (past plan moves)) moves → EachSucceeds (past plan moves) moves
+pub complete_so : (plan : Plan) (moves : List Move) → IsPlainPlan plan → IsUnforwarded plan moves → EachSucceeds (seen (past plan moves)) moves → EachSucceeds (past plan moves) moves
 unfolding can_seen
 complete_so plan moves nothing is x = λ comes.
     all_weaker (SucceedsIf (seen (past plan moves)) moves) (SucceedsIf (past plan moves) moves) (started_in moves (length plan.clients))
@@ -195,6 +196,6 @@ own_seen plan client has = λ task member work controller table is_task is_membe
     let own = has task member work controller table is_task (sym (peer_seen task.server plan) ∙ is_member) is_work (sym (peer_seen work.controller plan) ∙ is_controller) is_table in
     (own.0, subst (λ (members : List MemberPlan). AllPairs NamesApart members) (sym (members_seen plan controller)) own.1)
 
-pub one_by_one_so : (plan : Plan) (moves : List Move) → NothingSeals plan → IsUnforwarded plan moves → NoneClashes (seen (past plan moves)) moves → NoneClashes (past plan moves) moves
+pub one_by_one_so : (plan : Plan) (moves : List Move) → IsPlainPlan plan → IsUnforwarded plan moves → NoneClashes (seen (past plan moves)) moves → NoneClashes (past plan moves) moves
 one_by_one_so plan moves nothing is x = λ comes own.
     x (comes_seen plan moves nothing is comes) (all_weaker (HasOwnMember plan) (HasOwnMember (alone_plan plan)) (started_in moves (length plan.clients)) (own_seen plan) own)

@@ -160,8 +160,9 @@ pub record AnswersAreHeard (past : Past) : Type 0 where
   pub let_in : LetsInAsRead past
   pub keys : KeysAreFound past
 
--- what is proved of every run whose draws differ
-pub record IsProved (past : Past) : Type 0 where
+-- What is claimed of how controllers judge calls and reply, of the challenges that messages are made for, and of the
+-- marks of units. It holds of every run whose draws differ, of a plain plan that hands nothing on.
+pub record AnswersAreJudged (past : Past) : Type 0 where
   pub credentials : PassesTheNextCredential past
   pub replays : ReplaysBySum past
   pub grants : GrantsWhoMayLogOn past

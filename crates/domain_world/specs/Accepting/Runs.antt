@@ -63,7 +63,9 @@ abbrev pub MembersAreQuiet : State → Type 0
 MembersAreQuiet s =
     (i : ℕ) (m : MemberState) (running : MemberRunning) → slice_get s.ends.members i ≡ Some m → m.running ≡ Some running → IsQuietTurn running.dialling
 
-pub record IsQuiet (s : State) : Type 0 where
+-- What members and controllers sent to each other lies whole in the bag, and of no unit between them a part is held:
+-- no unit is open at a controller on a link that a member dialled, nor at a member on the link of its turn.
+pub record NothingIsOpen (s : State) : Type 0 where
   pub bag : BagIsWhole s
   pub controllers : ControllersAreQuiet s
   pub members : MembersAreQuiet s
@@ -108,7 +110,7 @@ AskedIsOut past =
 -- ---- of runs
 
 pub record RunsStandSo (plan : Plan) (moves : List Move) : Type 0 where
-  pub quiet : IsQuiet (past plan moves).world.state
+  pub quiet : NothingIsOpen (past plan moves).world.state
   pub requests : Requests RequesterId
   pub shows : Shows requests (past plan moves) (length moves)
   pub apart : CallsAreApart requests

@@ -81,10 +81,11 @@ pub record KindsFollowOpenings (past : Past) : Type 0 where
 -- ---- an opening names the type of who asks
 
 -- The type that is named by who opens a channel in a unit on a link of that kind: a member's computer is a workstation,
--- and a controller asks for its domain, which the other one trusts.
+-- as a station's is, and a controller asks for its domain, which the other one trusts.
 abbrev pub kind_asked : LinkKind → Option ℕ
 kind_asked kind.ToController = Some workstation_channel
 kind_asked kind.Between = Some trusted_domain_channel
+kind_asked kind.FromStation = Some workstation_channel
 kind_asked kind.ToMember = None
 kind_asked kind.Stranger = None
 

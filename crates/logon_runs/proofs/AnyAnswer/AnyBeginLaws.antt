@@ -1,6 +1,6 @@
 -- A logon of any client at any member, from its start at rest.
 -- Of `any_logons_start`.
-use Rattle.std.proofs.Common.{◌≡◌, ℕ, refl, sym, ap, subst, ◌∙◌, List, length, Option, None, Some, slice_get, []}
+use Rattle.std.proofs.Common.{◌≡◌, ℕ, refl, sym, ap, subst, ◌∙◌, List, Option, None, Some, slice_get, []}
 use Rattle.std.specs.Option.{option_and_then, option_map}
 use Rattle.wire_base.specs.Maps.{lookup}
 use Rattle.wire_base.specs.Names.{IsName, same_name}
@@ -24,6 +24,7 @@ use Rattle.member_server.specs.declared.plan.MemberPlan.{MemberPlan}
 use Rattle.world_moves.specs.declared.plan.Plan.{Plan}
 use Rattle.world_moves.specs.declared.state.State.{State}
 use Rattle.world_moves.specs.Choosing.{chosen_place}
+use Rattle.world_moves.specs.Ends.{starters_in}
 use Rattle.world_moves.specs.Forms.{HasForms, IsClientPlan, IsMemberPlan, IsNextHash}
 use Rattle.world_moves.specs.Moving.{start}
 use Rattle.world_moves.specs.World.{IsPlan}
@@ -155,12 +156,12 @@ module _ (plan : Plan) (s : State) (rest : AtRest plan s) (client member control
   }
 
   -- the client dials
-  pub begins_seen : (number : ℕ) → chosen_place number (length s.ends.clients) ≡ Some client → Shows (start number s).state (scene_of coming Dials s.chances.left s.moment)
+  pub begins_seen : (number : ℕ) → chosen_place number (starters_in s.ends) ≡ Some client → Shows (start number s).state (scene_of coming Dials s.chances.left s.moment)
   begins_seen number chosen =
       starts_are_seen.starts s (with_its_controller coming coming.meeting) number (rest.clients client three.task three.is_task).client s.links s.chances.left s.moment chosen
       (ap (λ (plans : List ClientPlan). slice_get plans client) rest.plans ∙ three.is_task) rests_seen
 
-  starts_so : (number : ℕ) → IsPlan plan → HasForms plan → chosen_place number (length s.ends.clients) ≡ Some client → HasStarted plan coming (start number s).state
+  starts_so : (number : ℕ) → IsPlan plan → HasForms plan → chosen_place number (starters_in s.ends) ≡ Some client → HasStarted plan coming (start number s).state
   starts_so number is forms chosen = record {
     able = able_so is forms;
     at = record { phase = On Dials; left = s.chances.left; moment = s.moment; fits = tt; shows = begins_seen number chosen };

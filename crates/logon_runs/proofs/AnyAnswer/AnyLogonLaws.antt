@@ -8,7 +8,7 @@ use Rattle.logon_client.specs.declared.plan.ClientPlan.{ClientPlan}
 use Rattle.member_server.specs.SealStep.{sealing_member}
 use Rattle.member_server.specs.declared.plan.MemberPlan.{MemberPlan}
 use Rattle.world_moves.specs.declared.links.EndId.{EndId}
-use Rattle.world_moves.specs.declared.links.EndId.TheVariants.{Client, Controller, Member}
+use Rattle.world_moves.specs.declared.links.EndId.TheVariants.{Client, Controller, Member, Station}
 use Rattle.world_moves.specs.declared.plan.Plan.{Plan}
 use Rattle.world_moves.specs.Ends.{EndStates}
 use Rattle.world_moves.specs.Moving.{end_of_peer, route_to, start}
@@ -29,24 +29,28 @@ IsWithin controllers members clients None = Unit {0}
 IsWithin controllers members clients (Some (Controller at)) = at < controllers
 IsWithin controllers members clients (Some (Member at)) = at < members
 IsWithin controllers members clients (Some (Client at)) = at < clients
+IsWithin controllers members clients (Some (Station at)) = Unit {0}
 
-within_by : (low mid high : Bool) (number controllers members clients : ℕ) → nat_lt number controllers ≡ low → nat_lt number (controllers + members) ≡ mid →
+within_by : (low mid high last : Bool) (number controllers members clients : ℕ) → nat_lt number controllers ≡ low → nat_lt number (controllers + members) ≡ mid →
     nat_lt number (controllers + members + clients) ≡ high → IsWithin controllers members clients
-    (if low then Some (Controller number) else if mid then Some (Member (number - controllers)) else if high then Some (Client (number - (controllers + members))) else None)
+    (if low then Some (Controller number) else if mid then Some (Member (number - controllers)) else if high then Some (Client (number - (controllers + members)))
+    else if last then Some (Station (number - (controllers + members + clients))) else None)
 unfolding IsWithin
-within_by true mid high number controllers members clients is_low is_mid is_high = ltb-true number controllers is_low
-within_by false true high number controllers members clients is_low is_mid is_high =
+within_by true mid high last number controllers members clients is_low is_mid is_high = ltb-true number controllers is_low
+within_by false true high last number controllers members clients is_low is_mid is_high =
     omega (arith, ltb-false number controllers is_low, ltb-true number (controllers + members) is_mid)
-within_by false false true number controllers members clients is_low is_mid is_high =
+within_by false false true last number controllers members clients is_low is_mid is_high =
     omega (arith, ltb-false number (controllers + members) is_mid, ltb-true number (controllers + members + clients) is_high)
-within_by false false false number controllers members clients is_low is_mid is_high = tt
+within_by false false false true number controllers members clients is_low is_mid is_high = tt
+within_by false false false false number controllers members clients is_low is_mid is_high = tt
 
 within_ends : (peer : List ℕ) (ends : EndStates) → IsWithin (length ends.controllers) (length ends.members) (length ends.clients) (end_of_peer peer ends)
 unfolding IsWithin
 within_ends [] ends = tt
 within_ends (number ∷ []) ends =
     within_by (nat_lt number (length ends.controllers)) (nat_lt number (length ends.controllers + length ends.members))
-    (nat_lt number (length ends.controllers + length ends.members + length ends.clients)) number (length ends.controllers) (length ends.members) (length ends.clients) refl refl refl
+    (nat_lt number (length ends.controllers + length ends.members + length ends.clients))
+    (nat_lt number (length ends.controllers + length ends.members + length ends.clients + length ends.stations)) number (length ends.controllers) (length ends.members) (length ends.clients) refl refl refl
 within_ends (number ∷ other ∷ more) ends = tt
 
 pub member_within : (peer : List ℕ) (ends : EndStates) (at : ℕ) → end_of_peer peer ends ≡ Some (Member at) → at < length ends.members
@@ -85,6 +89,7 @@ module _ (plan : Plan) (client : ℕ) (task : ClientPlan) (servers : HasServers 
       reached member at work table.item is_work table.is to_member (inl is_end)
   by_controller member work (Some (Member at)) is_work to_member is_end = by_any member work is_work to_member (ap (λ (end : Option EndId). route_to (Member member) end) is_end)
   by_controller member work (Some (Client at)) is_work to_member is_end = by_any member work is_work to_member (ap (λ (end : Option EndId). route_to (Member member) end) is_end)
+  by_controller member work (Some (Station at)) is_work to_member is_end = by_any member work is_work to_member (ap (λ (end : Option EndId). route_to (Member member) end) is_end)
   by_controller member work None is_work to_member is_end = by_any member work is_work to_member (ap (λ (end : Option EndId). route_to (Member member) end) is_end)
 
   by_member : (found : Option EndId) → end_of_peer task.server (first_ends plan) ≡ found → Goal
@@ -93,6 +98,7 @@ module _ (plan : Plan) (client : ℕ) (task : ClientPlan) (servers : HasServers 
       by_controller at work.item (end_of_peer work.item.controller (first_ends plan)) work.is is_end refl
   by_member (Some (Controller at)) is_end = unreached (ap (λ (end : Option EndId). route_to (Client client) end) is_end)
   by_member (Some (Client at)) is_end = unreached (ap (λ (end : Option EndId). route_to (Client client) end) is_end)
+  by_member (Some (Station at)) is_end = unreached (ap (λ (end : Option EndId). route_to (Client client) end) is_end)
   by_member None is_end = unreached (ap (λ (end : Option EndId). route_to (Client client) end) is_end)
 
   pub by_reach : Goal

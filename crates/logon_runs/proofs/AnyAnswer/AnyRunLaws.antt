@@ -15,6 +15,7 @@ use Rattle.world_moves.specs.declared.plan.Plan.{Plan}
 use Rattle.world_moves.specs.declared.state.State.{State}
 use Rattle.world_moves.specs.declared.state.WaitingDial.{WaitingDial}
 use Rattle.world_moves.specs.Choosing.{chosen_place}
+use Rattle.world_moves.specs.Ends.{starters_in}
 use Rattle.world_moves.specs.Forms.{HasForms}
 use Rattle.world_moves.specs.Moving.{act, end_of_peer, onward, route_to, start}
 use Rattle.world_moves.specs.World.{IsPlan, first_ends, first_world}
@@ -223,7 +224,7 @@ module _ (plan : Plan) (p : Arrival) (s : State) (able : IsAble plan p) (heard :
 -- ---- from rest to rest
 
 pub reached_rests : (plan : Plan) (s : State) (rest : AtRest plan s) (client member controller : ℕ) (three : AreThree plan client member controller) (account : Account) (number : ℕ) →
-    IsPlan plan → HasForms plan → HasSameEnds (first_world plan).state s → chosen_place number (length s.ends.clients) ≡ Some client →
+    IsPlan plan → HasForms plan → HasSameEnds (first_world plan).state s → chosen_place number (starters_in s.ends) ≡ Some client →
     end_of_peer three.task.server (first_ends plan) ≡ Some (Member member) → IsReachedOrNot plan member three.member_plan controller →
     (moves : List Move) → AllByRecursion IsStepOn moves → AreBelow moves (start number s).state → HasEnough (length moves) (start number s).state.chances.left →
     (moved_by moves (start number s).state).dials ≡ [] → waiting (moved_by moves (start number s).state).bag ≡ [] →

@@ -14,6 +14,7 @@ use Rattle.world_moves.specs.declared.plan.Plan.{Plan}
 use Rattle.world_moves.specs.declared.state.State.{State}
 use Rattle.world_moves.specs.declared.state.WaitingDial.{WaitingDial}
 use Rattle.world_moves.specs.Choosing.{chosen_place}
+use Rattle.world_moves.specs.Ends.{starters_in}
 use Rattle.world_moves.specs.Moving.{act, end_of_peer, moment_after, route_to, start}
 use Rattle.world_moves.specs.World.{first_ends, first_world}
 use Rattle.logon_steps.specs.ClientSteps.{client_ended}
@@ -100,7 +101,7 @@ answered_so p left now moment (inl shows) none = absurd (one_waits now.dials _ [
 answered_so p left now moment (inr shows) none = shows
 
 pub unreached_rests : (plan : Plan) (s : State) (rest : AtRest plan s) (client member controller : ℕ) (three : AreThree plan client member controller) (account : Account) (number : ℕ) →
-    HasSameEnds (first_world plan).state s → chosen_place number (length s.ends.clients) ≡ Some client →
+    HasSameEnds (first_world plan).state s → chosen_place number (starters_in s.ends) ≡ Some client →
     route_to (Client client) (end_of_peer three.task.server (first_ends plan)) ≡ None →
     (moves : List Move) → AllByRecursion IsStepOn moves → (moved_by moves (start number s).state).dials ≡ [] →
     LogonRests plan s client three.task (length moves) (start number s).state (moved_by moves (start number s).state)

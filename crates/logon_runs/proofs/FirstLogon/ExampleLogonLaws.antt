@@ -9,12 +9,13 @@ use Rattle.wire_base.specs.Names as names
 use Rattle.account_table.specs.LookUps.{account_in, machine_name, place_in}
 use Rattle.sam_logon.specs.MayLogOn.{MayLogOn}
 use Rattle.logon_client.specs.Plans.{CanLogOn}
-use Rattle.world_moves.specs.Forms.{HasForms, HasMoveForm, IsAccount, IsBlock, IsByte, IsClientPlan, IsIdentifier, IsMemberPlan, IsTable, IsTrust}
+use Rattle.world_moves.specs.Forms.{HasForms, HasMoveForm, IsAccount, IsBlock, IsByte, IsClientPlan, IsIdentifier, IsMemberPlan, IsStationPlan, IsTable, IsTrust}
 use Rattle.world_moves.specs.World.{IsMove, IsPlan}
 use Rattle.logon_steps.specs.Granting.{info_told}
 use Rattle.logon_runs.specs.FirstLogon.ExampleLogon.{AnnLogsOn, ann, ann_moves, ann_plan, ann_task, corp, file1, file1_plan}
 use Rattle.logon_runs.specs.FirstLogon.FirstWorlds.{CanComeIn, IsLoggedOn}
 use Rattle.logon_runs.proofs.FirstLogon.FirstWorldLaws.{first_worlds_run}
+use Rattle.interactive_station.specs.Plans.{CanStation}
 
 -- ---- forms
 
@@ -115,7 +116,11 @@ client_follows = record {
 }
 
 plan_is : IsPlan ann_plan
-plan_is = record { tables = refl; clients = All-from_recursion CanLogOn ann_plan.clients (client_follows, tt) }
+plan_is = record {
+  tables = refl;
+  clients = All-from_recursion CanLogOn ann_plan.clients (client_follows, tt);
+  stations = All-nil CanStation;
+}
 
 plan_forms : HasForms ann_plan
 plan_forms = record {
@@ -123,6 +128,7 @@ plan_forms = record {
   controllers = All-from_recursion IsName ann_plan.controllers (a_name (codes "PDC") (omega arith) ((omega arith, omega arith), ((omega arith, omega arith), ((omega arith, omega arith), tt))), tt);
   members = All-from_recursion IsMemberPlan ann_plan.members (member_form, tt);
   clients = All-from_recursion IsClientPlan ann_plan.clients (client_form, tt);
+  stations = All-nil IsStationPlan;
   now = omega arith;
   seed = (refl, All-replicate IsByte 32 0 (omega arith));
 }

@@ -1,6 +1,6 @@
 -- The first logon in a world, from its plan to the client's outcome.
 -- Of `first_worlds_run`.
-use Rattle.std.proofs.Common.{◌≡◌, ℕ, zero, suc, ◌<◌, ◌-◌, ◌^◌, Bool, true, false, List, [], ◌∷◌, ◌++◌, length, Option, Some, None, refl, ap, subst, ◌∙◌, arith, slice_get, inl, inr}
+use Rattle.std.proofs.Common.{◌≡◌, ℕ, zero, suc, ◌+◌, ◌<◌, ◌-◌, ◌^◌, Bool, true, false, List, [], ◌∷◌, ◌++◌, length, Option, Some, None, refl, ap, ap₂, subst, ◌∙◌, arith, slice_get, inl, inr}
 use Rattle.std.specs.Prelude.{◌==◌, All}
 use Rattle.std.specs.List.{AllByRecursion}
 use Rattle.std.specs.Option.{option_and_then}
@@ -24,6 +24,7 @@ use Rattle.domain_controller.specs.Whole.{InRangeTable}
 use Rattle.domain_controller.proofs.TrustPlaceLaws.{got_all}
 use Rattle.domain_controller.proofs.TurnOutLaws.{got_map}
 use Rattle.logon_client.specs.declared.outcome.ClientOutcome.TheVariants.{In}
+use Rattle.interactive_station.specs.Machine.{fresh_station}
 use Rattle.logon_client.specs.Machine.{fresh_client}
 use Rattle.logon_client.specs.Plans.{CanLogOn}
 use Rattle.member_server.specs.SealStep.{sealing_member}
@@ -33,7 +34,7 @@ use Rattle.world_moves.specs.Choosing.{chosen_place}
 use Rattle.world_moves.specs.Forms.{HasForms, IsClientPlan, IsMemberPlan, IsTable}
 use Rattle.world_moves.specs.Alone.{TrustsNobody}
 use Rattle.world_moves.specs.Ends.{fresh_controller}
-use Rattle.world_moves.specs.World.{IsPlan, first_controllers, first_world, outcome_by, run}
+use Rattle.world_moves.specs.World.{IsPlan, first_controllers, first_world, outcome_by, run, starters_of}
 use Rattle.world_moves.proofs.AloneLaws.{fresh_alone}
 use Rattle.world_moves.proofs.RangeLaws.{table_in_range}
 use Rattle.logon_steps.specs.Answers.{AreDraws, HasUnits}
@@ -192,11 +193,11 @@ module _ (plan : Plan) (client member controller : ℕ) (can : CanComeIn plan cl
       number = omega arith;
     }
 
-    module _ (number : ℕ) (chosen : chosen_place number (length plan.clients) ≡ Some client) (shown : FirstKeyArrives plan client member controller can) where
+    module _ (number : ℕ) (chosen : chosen_place number (starters_of plan) ≡ Some client) (shown : FirstKeyArrives plan client member controller can) where
       pub comes_first : ComesInFirst (first_world plan).state (first_meeting plan client member controller can) number [] (first_asked plan) (draw plan 4) (draw plan 5) can.table can.name
           can.account can.machine plan.now
       comes_first = record {
-        chosen = ap (chosen_place number) (length-map plan.clients fresh_client) ∙ chosen;
+        chosen = ap₂ (λ (clients stations : ℕ). chosen_place number (clients + stations)) (length-map plan.clients fresh_client) (length-map plan.stations fresh_station) ∙ chosen;
         planned = can.is_task;
         member = can.is_member;
         controller = can.is_controller;
@@ -214,7 +215,7 @@ zero_so count is = grind (arith, nat_tests)
 
 -- the run has these moves where nothing is echoed, and two more else
 runs_so : (plan : Plan) (client member controller number : ℕ) (can : CanComeIn plan client member controller) → IsPlan plan → HasForms plan →
-    chosen_place number (length plan.clients) ≡ Some client → FirstKeyArrives plan client member controller can → (silent : Bool) → (can.task.echo == 0) ≡ silent →
+    chosen_place number (starters_of plan) ≡ Some client → FirstKeyArrives plan client member controller can → (silent : Bool) → (can.task.echo == 0) ≡ silent →
     let end : Meeting = after_first (first_meeting plan client member controller can) [] can.machine (draw plan 4) (draw plan 5) can.table can.name no_computers plan.now in
     Shows (run (logon_moves number silent) (first_world plan)).state
     (rest_scene end (client_ended can.task (In (can.table.domain ++ 0x5C ∷ can.account.name) (key_then plan client member controller can) can.task.echo)) end.links

@@ -1,12 +1,13 @@
 -- That the moves of one logon change its three ends alone.
 -- Of `others_are_left`.
-use Rattle.std.proofs.Common.{◌≡◌, ◌≢◌, ℕ, zero, suc, Bool, true, false, List, [], ◌∷◌, ◌++◌, length, Option, Some, None, refl, sym, ap, subst, ◌∙◌, slice_get, slice_set, if◌then◌else◌}
+use Rattle.std.proofs.Common.{◌≡◌, ◌≢◌, ◌-◌, ℕ, zero, suc, Bool, true, false, List, [], ◌∷◌, ◌++◌, length, Option, Some, None, refl, sym, ap, subst, ◌∙◌, slice_get, slice_set, if◌then◌else◌}
 use Rattle.wire_base.specs.Maps.{lookup, put, same_number, take_out}
 use Rattle.outside.specs.declared.action.Action.{Action}
 use Rattle.outside.specs.declared.event.Event.{Event}
 use Rattle.outside.specs.declared.event.Event.TheVariants as event
 use Rattle.domain_controller.specs.State.{State as ControllerState}
 use Rattle.domain_controller.specs.SealStep.{seal_step_of as controller_step_of}
+use Rattle.interactive_station.specs.declared.plan.StationPlan.{StationPlan}
 use Rattle.logon_client.specs.declared.plan.ClientPlan.{ClientPlan}
 use Rattle.logon_client.specs.State.{State as ClientState}
 use Rattle.logon_client.specs.Machine.{begin_of, fresh_client, step_of as client_step_of}
@@ -14,10 +15,10 @@ use Rattle.member_server.specs.State.{State as MemberState}
 use Rattle.member_server.specs.SealStep.{any_step_of as member_step_of}
 use Rattle.world_moves.specs.declared.bag.BagUnit.{BagUnit}
 use Rattle.world_moves.specs.declared.links.EndId.{EndId}
-use Rattle.world_moves.specs.declared.links.EndId.TheVariants.{Client}
+use Rattle.world_moves.specs.declared.links.EndId.TheVariants.{Client, Station}
 use Rattle.world_moves.specs.declared.links.OpenLink.{OpenLink}
 use Rattle.world_moves.specs.declared.links.Route.{Route}
-use Rattle.world_moves.specs.declared.links.Route.TheVariants.{Between, Stranger, ToController, ToMember}
+use Rattle.world_moves.specs.declared.links.Route.TheVariants.{Between, FromStation, Stranger, ToController, ToMember}
 use Rattle.world_moves.specs.declared.moves.Move.{Move}
 use Rattle.world_moves.specs.declared.state.State.{State}
 use Rattle.world_moves.specs.declared.state.WaitingDial.{WaitingDial}
@@ -25,7 +26,7 @@ use Rattle.world_moves.specs.Acting.{AfterHearing, close_open, closed_at, forget
 use Rattle.world_moves.specs.Bag.{first_waiting, pieces_of}
 use Rattle.world_moves.specs.Ends.{EndStep, client_done, controller_done, member_done}
 use Rattle.world_moves.specs.Links.{OpenMap, accepted, acceptor_of, answered, dialler_of, end_if, forget_end, hearer_of, hearer_on, is_accepted_by, other_hearer}
-use Rattle.world_moves.specs.Moving.{act, answer_by, answered_link, begun, come_by, come_on_own, connect_by, connect_first, end_of_peer, onward_by, open_link, route_to, settle, start_at, start_by, with_link, without_first}
+use Rattle.world_moves.specs.Moving.{act, answer_by, answered_link, begun, come_by, come_on_own, connect_by, connect_first, end_of_peer, onward_by, open_link, route_to, settle, start_at, start_by, start_station_by, station_begun, with_link, without_first}
 use Rattle.world_moves.proofs.EndKindLaws.{step_by}
 use Rattle.logon_runs.specs.Scenes.Others.{AreAmong, IsAmong, IsDialAmong, IsOneOf, IsRoutedAmong, IsStepOn, OthersAreLeft, OthersStay, Three}
 use Rattle.logon_runs.proofs.Scenes.StepOnLaws.{by_step}
@@ -130,6 +131,7 @@ module _ (t : Three) (what : Event) (s : State) (are : AreAmong t s.open_links) 
   heard_stays =
       step_by (λ (end : EndId) (step : EndStep). IsOneOf t end → OthersStay t s (heard_by step s).state) what s.moment s.ends s.chances (λ end is. of_same t s _ refl are)
       (λ at c there is. controller_heard at c is) (λ at m there is. member_heard at m is) (λ at c there is. client_heard at c is)
+      (λ at t there is. absurd is)
 
 -- ---- what it then does
 
@@ -157,12 +159,14 @@ unfolding IsOneIf
 dialler_so t (ToMember client member) is = is.0
 dialler_so t (ToController member controller) is = is.0
 dialler_so t (Between from to) is = absurd is
+dialler_so t (FromStation station controller) is = absurd is
 dialler_so t (Stranger to) is = absurd is
 
 acceptor_so : (t : Three) (route : Route) → IsAmong t route → IsOneOf t (acceptor_of route)
 acceptor_so t (ToMember client member) is = is.1
 acceptor_so t (ToController member controller) is = is.1
 acceptor_so t (Between from to) is = absurd is
+acceptor_so t (FromStation station controller) is = absurd is
 acceptor_so t (Stranger to) is = absurd is
 
 hearer_so : (t : Three) (back : Bool) (there : OpenLink) → IsAmong t there.route → IsOneIf t (hearer_on back there)
@@ -277,8 +281,22 @@ steps_stay t s what steps are is =
     (both_stay t s (without_first s) _ (of_same t s _ refl are) (connect_first_stays t (slice_get s.dials 0) (without_first s) (without_first_is t s (slice_get s.dials 0) is) are))
     (onward_stays t (first_waiting s.bag) s are) (λ more. of_same t s _ refl are) what steps
 
+-- a station that starts changes none of them
+station_by_stays : (t : Three) (plan : Option StationPlan) (at : ℕ) (s : State) → s.open_links ≡ [] → OthersStay t s (start_station_by plan at s).state
+station_by_stays t None at s none = staying t s (subst (AreAmong t) (sym none) tt)
+station_by_stays t (Some plan) at s none =
+    let heard : AfterHearing = station_begun at plan (forget (Station at) s) in
+    let first : OthersStay t s heard.state = record {
+      controllers = λ other apart. refl;
+      members = λ other apart. refl;
+      clients = λ other apart. refl;
+      links = subst (λ (links : OpenMap). AreAmong t (forget_end (Station at) links)) (sym none) tt;
+    } in
+    both_stay t s heard.state _ first (actions_stay t (Station at) heard.actions heard.state first.links)
+
 start_by_stays : (t : Three) (plan : Option ClientPlan) (s : State) → s.open_links ≡ [] → OthersStay t s (start_by plan t.client s).state
-start_by_stays t None s none = staying t s (subst (AreAmong t) (sym none) tt)
+start_by_stays t None s none =
+    station_by_stays t (slice_get s.station_plans (t.client - length s.client_plans)) (t.client - length s.client_plans) s none
 start_by_stays t (Some plan) s none =
     let heard : AfterHearing = begun t.client plan (forget (Client t.client) s) in
     let first : OthersStay t s heard.state = record {

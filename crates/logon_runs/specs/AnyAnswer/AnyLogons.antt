@@ -10,6 +10,7 @@ use Rattle.world_moves.specs.declared.moves.Move.{Move}
 use Rattle.world_moves.specs.declared.plan.Plan.{Plan}
 use Rattle.world_moves.specs.declared.state.State.{State}
 use Rattle.world_moves.specs.Choosing.{chosen_place}
+use Rattle.world_moves.specs.Ends.{starters_in}
 use Rattle.world_moves.specs.Forms.{HasForms}
 use Rattle.world_moves.specs.Moving.{act, start}
 use Rattle.world_moves.specs.World.{IsPlan, first_world}
@@ -51,7 +52,7 @@ pub record LogonRests (plan : Plan) (s : State) (client : ℕ) (task : ClientPla
 pub record LogonsRest : Type 0 where
   -- whichever client starts at rest: once nothing waits again
   pub rests : (plan : Plan) (s : State) (rest : AtRest plan s) (client : ℕ) (task : ClientPlan) (number : ℕ) → IsPlan plan → HasForms plan → HasServers plan →
-      slice_get plan.clients client ≡ Some task → HasSameEnds (first_world plan).state s → chosen_place number (length s.ends.clients) ≡ Some client →
+      slice_get plan.clients client ≡ Some task → HasSameEnds (first_world plan).state s → chosen_place number (starters_in s.ends) ≡ Some client →
       (moves : List Move) → AllByRecursion IsStepOn moves → AreBelow moves (start number s).state → HasEnough (length moves) (start number s).state.chances.left →
       let after : State = moved_by moves (start number s).state in
       after.dials ≡ [] → waiting after.bag ≡ [] → LogonRests plan s client task (length moves) (start number s).state after

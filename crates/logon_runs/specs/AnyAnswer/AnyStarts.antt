@@ -1,5 +1,5 @@
 -- A logon of any client at any member from its start at rest, and once it is over (this project's own choice).
-use Rattle.std.specs.Prelude.{ℕ, ◌≡◌, ◌⊎◌, [], length, None, Some, slice_get}
+use Rattle.std.specs.Prelude.{ℕ, ◌≡◌, ◌⊎◌, [], None, Some, slice_get}
 use Rattle.account_table.specs.AccountTable.{AccountTable}
 use Rattle.account_table.specs.declared.account.Account.{Account}
 use Rattle.member_server.specs.Secrets.{tried_of}
@@ -9,6 +9,7 @@ use Rattle.world_moves.specs.declared.links.EndId.TheVariants.{Controller, Membe
 use Rattle.world_moves.specs.declared.plan.Plan.{Plan}
 use Rattle.world_moves.specs.declared.state.State.{State}
 use Rattle.world_moves.specs.Choosing.{chosen_place}
+use Rattle.world_moves.specs.Ends.{starters_in}
 use Rattle.world_moves.specs.Forms.{HasForms}
 use Rattle.world_moves.specs.Moving.{end_of_peer, route_to, start}
 use Rattle.world_moves.specs.World.{IsPlan, first_ends}
@@ -68,7 +69,7 @@ pub record HasStarted (plan : Plan) (p : Arrival) (s : State) : Type 0 where
 
 pub record AnyLogonsStart : Type 0 where
   pub starts : (plan : Plan) (s : State) (rest : AtRest plan s) (client member controller : ℕ) (three : AreThree plan client member controller) (account machine : Account) (number : ℕ) → IsPlan plan →
-      HasForms plan → chosen_place number (length s.ends.clients) ≡ Some client →
+      HasForms plan → chosen_place number (starters_in s.ends) ≡ Some client →
       HasStarted plan (coming_from plan s rest client member controller three account machine) (start number s).state
   -- once a logon is over the world rests again, where the others are as they were
   pub ends : (plan : Plan) (s : State) (rest : AtRest plan s) (client member controller : ℕ) (three : AreThree plan client member controller) (account machine : Account) (after : State) →

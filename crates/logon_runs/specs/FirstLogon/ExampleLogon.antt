@@ -74,6 +74,7 @@ ann_plan = record {
   controllers = codes "PDC" ∷ [];
   members = file1_plan ∷ [];
   clients = ann_task ∷ [];
+  stations = [];
   hands_on = false;
   seals = false;
   now = 0;

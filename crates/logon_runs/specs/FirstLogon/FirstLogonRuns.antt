@@ -16,6 +16,7 @@ use Rattle.world_moves.specs.declared.links.EndId.TheVariants.{Controller, Membe
 use Rattle.world_moves.specs.declared.links.Route.{Route}
 use Rattle.world_moves.specs.declared.state.State.{State}
 use Rattle.world_moves.specs.Choosing.{chosen_place}
+use Rattle.world_moves.specs.Ends.{starters_in}
 use Rattle.world_moves.specs.Moving.{end_of_peer}
 use Rattle.logon_steps.specs.Answers.{answer_for, drawn_of}
 use Rattle.logon_steps.specs.ClientSteps.{client_ended}
@@ -35,7 +36,7 @@ first_turns number s = go_through_turn (go_through_turn (go_through_turn (goes (
 -- which client starts, whom it reaches, and that its logon is granted on the next link
 pub record ComesInFirst (s : State) (g : Meeting) (number : ℕ) (links : List Route) (a : ClientAnswer) (client server : List ℕ) (table : AccountTable) (name : List ℕ) (account machine : Account)
     (moment : ℕ) : Type 0 where
-  pub chosen : chosen_place number (length s.ends.clients) ≡ Some g.at_client
+  pub chosen : chosen_place number (starters_in s.ends) ≡ Some g.at_client
   pub planned : slice_get s.client_plans g.at_client ≡ Some g.task
   pub member : end_of_peer g.task.server s.ends ≡ Some (Member g.at_member)
   pub controller : end_of_peer g.plan.controller s.ends ≡ Some (Controller g.at_controller)

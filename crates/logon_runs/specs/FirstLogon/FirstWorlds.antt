@@ -1,6 +1,6 @@
 -- The first logon in a world, from its plan to the client's outcome: the moves, the plan's values of which it is
 -- granted, and what it comes to (this project's own choice).
-use Rattle.std.specs.Prelude.{ℕ, ◌≡◌, ◌-◌, ◌==◌, Bool, true, false, List, [], ◌∷◌, ◌++◌, length, Some, None, slice_get}
+use Rattle.std.specs.Prelude.{ℕ, ◌≡◌, ◌-◌, ◌==◌, Bool, true, false, List, [], ◌∷◌, ◌++◌, Some, None, slice_get}
 use Rattle.authenticators.specs.SecureChannels.{SecureChannelState}
 use Rattle.outside.specs.Counter.{challenge_of, challenges_from, most_draws}
 use Rattle.account_table.specs.AccountTable.{AccountTable}
@@ -24,7 +24,7 @@ use Rattle.world_moves.specs.Alone.{TrustsNobody}
 use Rattle.world_moves.specs.Choosing.{chosen_place}
 use Rattle.world_moves.specs.Forms.{HasForms}
 use Rattle.world_moves.specs.Moving.{end_of_peer}
-use Rattle.world_moves.specs.World.{IsPlan, first_ends, first_world, outcome_of, run}
+use Rattle.world_moves.specs.World.{IsPlan, first_ends, first_world, outcome_of, run, starters_of}
 use Rattle.logon_steps.specs.Answers.{answer_for, drawn_of}
 use Rattle.logon_steps.specs.ClientSteps.{client_ended}
 use Rattle.logon_steps.specs.Granting.{info_told}
@@ -149,5 +149,5 @@ pub record IsLoggedOn (plan : Plan) (client member controller number : ℕ) (can
       (left_then plan) plan.now [])
 
 pub record FirstWorldsRun : Type 0 where
-  pub comes_in : (plan : Plan) (client member controller number : ℕ) → IsPlan plan → HasForms plan → chosen_place number (length plan.clients) ≡ Some client →
+  pub comes_in : (plan : Plan) (client member controller number : ℕ) → IsPlan plan → HasForms plan → chosen_place number (starters_of plan) ≡ Some client →
       (can : CanComeIn plan client member controller) → FirstKeyArrives plan client member controller can → IsLoggedOn plan client member controller number can

@@ -1,16 +1,17 @@
 -- That the moves of one logon change its client, its member and its controller alone (this project's own choice).
-use Rattle.std.specs.Prelude.{ℕ, ◌≡◌, ◌≢◌, Bool, true, false, [], Option, Some, None, length, slice_get}
+use Rattle.std.specs.Prelude.{ℕ, ◌≡◌, ◌≢◌, Bool, true, false, [], Option, Some, None, slice_get}
 use Rattle.std.specs.List.{AllByRecursion}
 use Rattle.world_moves.specs.declared.links.EndId.{EndId}
-use Rattle.world_moves.specs.declared.links.EndId.TheVariants.{Controller, Member, Client}
+use Rattle.world_moves.specs.declared.links.EndId.TheVariants.{Controller, Member, Client, Station}
 use Rattle.world_moves.specs.declared.links.OpenLink.{OpenLink}
 use Rattle.world_moves.specs.declared.links.Route.{Route}
-use Rattle.world_moves.specs.declared.links.Route.TheVariants.{ToMember, ToController, Between, Stranger}
+use Rattle.world_moves.specs.declared.links.Route.TheVariants.{ToMember, ToController, Between, FromStation, Stranger}
 use Rattle.world_moves.specs.declared.moves.Move.{Move}
 use Rattle.world_moves.specs.declared.moves.Move.TheVariants as move
 use Rattle.world_moves.specs.declared.state.State.{State}
 use Rattle.world_moves.specs.declared.state.WaitingDial.{WaitingDial}
 use Rattle.world_moves.specs.Choosing.{chosen_place}
+use Rattle.world_moves.specs.Ends.{starters_in}
 use Rattle.world_moves.specs.Links.{OpenMap}
 use Rattle.world_moves.specs.Moving.{act, end_of_peer, route_to, start}
 
@@ -25,12 +26,14 @@ abbrev pub IsOneOf : Three → EndId → Type 0
 IsOneOf t (Client at) = at ≡ t.client
 IsOneOf t (Member at) = at ≡ t.member
 IsOneOf t (Controller at) = at ≡ t.controller
+IsOneOf t (Station at) = ⊥
 
 -- the route is between them
 abbrev pub IsAmong : Three → Route → Type 0
 IsAmong t (ToMember client member) = (client ≡ t.client) × (member ≡ t.member)
 IsAmong t (ToController member controller) = (member ≡ t.member) × (controller ≡ t.controller)
 IsAmong t (Between from to) = ⊥
+IsAmong t (FromStation station controller) = ⊥
 IsAmong t (Stranger to) = ⊥
 
 -- each link that is open is
@@ -73,6 +76,6 @@ pub record OthersStay (t : Three) (s after : State) : Type 0 where
 pub record OthersAreLeft : Type 0 where
   pub steps : (t : Three) (s : State) (what : Move) → IsStepOn what → AreAmong t s.open_links → IsDialAmong t s (slice_get s.dials 0) → OthersStay t s (act s what).state
   -- a client starts where no link is open
-  pub starts : (t : Three) (s : State) (number : ℕ) → chosen_place number (length s.ends.clients) ≡ Some t.client → s.open_links ≡ [] → OthersStay t s (start number s).state
+  pub starts : (t : Three) (s : State) (number : ℕ) → chosen_place number (starters_in s.ends) ≡ Some t.client → s.open_links ≡ [] → OthersStay t s (start number s).state
   pub none : (t : Three) (s : State) → AreAmong t s.open_links → OthersStay t s s
   pub both : (t : Three) (s between after : State) → OthersStay t s between → OthersStay t between after → OthersStay t s after

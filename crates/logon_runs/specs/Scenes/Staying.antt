@@ -12,6 +12,7 @@ pub record AreAsMany (ends after : EndStates) : Type 0 where
   pub controllers : length after.controllers ≡ length ends.controllers
   pub members : length after.members ≡ length ends.members
   pub clients : length after.clients ≡ length ends.clients
+  pub stations : length after.stations ≡ length ends.stations
 
 -- both states have as many ends of each kind, and the same plans, those of members but for their secrets
 pub record HasSameEnds (s after : State) : Type 0 where

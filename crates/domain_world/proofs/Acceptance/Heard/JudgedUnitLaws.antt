@@ -35,7 +35,7 @@ use Rattle.world_moves.specs.declared.links.EndId.{EndId}
 use Rattle.world_moves.specs.declared.links.EndId.TheVariants.{Controller}
 use Rattle.world_moves.specs.declared.links.LinkKind.TheVariants as kind
 use Rattle.world_moves.specs.declared.links.Route.{Route}
-use Rattle.world_moves.specs.declared.links.Route.TheVariants.{ToMember, ToController, Between, Stranger}
+use Rattle.world_moves.specs.declared.links.Route.TheVariants.{ToMember, ToController, Between, Stranger, FromStation}
 use Rattle.world_moves.specs.declared.state.State.{State}
 use Rattle.world_moves.specs.Acting.{perform_quietly, unit_on}
 use Rattle.world_moves.specs.Bag.{settle_at}
@@ -150,6 +150,7 @@ acts_stand end what s js stand =
 -- a controller hears on links to it and on a stranger's, and on no other
 pub route_of : (back : Bool) (route : Route) (at : ℕ) → IsApart route → side_of back route ≡ Some (Controller at) → is_own (kind_of route) ≡ true → (member : ℕ) × (route ≡ ToController member at)
 route_of back (Between from to) at apart is own = absurd apart
+route_of back (FromStation station controller) at apart is own = absurd apart
 route_of back (Stranger to) at apart is own = absurd (let never : false ≡ true = own in cc)
 route_of false (ToController member controller) at apart is own = (member, ap (λ (n : ℕ). ToController member n) (let same : controller ≡ at = cc in same))
 route_of true (ToController member controller) at apart is own = absurd cc

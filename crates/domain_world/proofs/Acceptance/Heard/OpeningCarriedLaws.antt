@@ -30,7 +30,7 @@ use Rattle.world_moves.specs.declared.bag.BagUnit.{BagUnit}
 use Rattle.world_moves.specs.declared.links.EndId.{EndId}
 use Rattle.world_moves.specs.declared.links.EndId.TheVariants.{Controller}
 use Rattle.world_moves.specs.declared.links.Route.{Route}
-use Rattle.world_moves.specs.declared.links.Route.TheVariants.{ToMember, ToController, Between, Stranger}
+use Rattle.world_moves.specs.declared.links.Route.TheVariants.{ToMember, ToController, Between, Stranger, FromStation}
 use Rattle.world_moves.specs.declared.plan.Plan.{Plan}
 use Rattle.world_moves.specs.declared.moves.Move.{Move}
 use Rattle.world_moves.specs.declared.state.State.{State}
@@ -197,6 +197,7 @@ module _ (c : ControllerState) (s : State) (w : Delivery) (piece : List ℕ) (nu
 -- a controller hears what goes to it
 to_it : (back : Bool) (route : Route) (at : ℕ) → IsApart route → side_of back route ≡ Some (Controller at) → is_own (kind_of route) ≡ true → back ≡ false
 to_it back (Between from to) at apart is own = absurd apart
+to_it back (FromStation station controller) at apart is own = absurd apart
 to_it back (Stranger to) at apart is own = absurd (let never : false ≡ true = own in cc)
 to_it false (ToController member controller) at apart is own = refl
 to_it true (ToController member controller) at apart is own = absurd cc

@@ -125,6 +125,7 @@ pub record SameEnds (one other : EndStates) : Type 0 where
   pub controllers : length one.controllers ≡ length other.controllers
   pub members : length one.members ≡ length other.members
   pub clients : length one.clients ≡ length other.clients
+  pub stations : length one.stations ≡ length other.stations
 
 -- units of the bag and what is written down of them stay
 pub record GrowsTo (s t : State) (b d : Book) : Type 0 where
@@ -146,7 +147,8 @@ marks_before s t b d grows known n unit one named there back noted made =
 
 end_same : (one other : EndStates) (number : ℕ) → SameEnds one other → end_at number one ≡ end_at number other
 end_same one other number same =
-    ap₂ (λ (c m : ℕ). end_in number c m (length one.clients)) same.controllers same.members ∙ ap (λ (n : ℕ). end_in number (length other.controllers) (length other.members) n) same.clients
+    ap₂ (λ (c m : ℕ). end_in number c m (length one.clients) (length one.stations)) same.controllers same.members
+    ∙ ap₂ (λ (n s : ℕ). end_in number (length other.controllers) (length other.members) n s) same.clients same.stations
 
 peer_same : (one other : EndStates) (peer : List ℕ) → SameEnds one other → end_of_peer peer one ≡ end_of_peer peer other
 peer_same one other [] same = refl

@@ -147,7 +147,7 @@ module _ (plan : Plan) where
           (let grows : GrowsTo s (begun client own s).state b b = record {
             bag = kept_same s.bag;
             sent = λ k one there. there;
-            ends = record { controllers = refl; members = refl; clients = sym (length-set s.ends.clients client _) };
+            ends = record { controllers = refl; members = refl; clients = sym (length-set s.ends.clients client _); stations = refl };
           } in
           others_hear plan s (begun client own s).state b b given (given_by (Client client) (begun client own s).actions) grows refl refl (others_tell (Client client) refl (begun client own s).actions)
           (holds.1 unclashed apart (marks_before s (begun client own s).state b b grows marks))),

@@ -117,14 +117,14 @@ calm_silent Own (Some running) what dials = calm_heard Own what running.dialling
 -- ---- ends
 
 pub same_ends : (ends : EndStates) → SameEnds ends ends
-same_ends ends = record { controllers = refl; members = refl; clients = refl }
+same_ends ends = record { controllers = refl; members = refl; clients = refl; stations = refl }
 
 pub step_same : (end : EndId) (what : Event) (now : ℕ) (ends : EndStates) (chances : Drawing) → SameEnds ends (end_step end what now ends chances).ends
 step_same end what now ends chances =
     step_by (λ (one : EndId) (step : EndStep). SameEnds ends step.ends) what now ends chances (λ one. same_ends ends)
-    (λ at c is. record { controllers = sym (length-set ends.controllers at _); members = refl; clients = refl })
-    (λ at m is. record { controllers = refl; members = sym (length-set ends.members at _); clients = refl })
-    (λ at c is. record { controllers = refl; members = refl; clients = sym (length-set ends.clients at _) }) end
+    (λ at c is. record { controllers = sym (length-set ends.controllers at _); members = refl; clients = refl; stations = refl })
+    (λ at m is. record { controllers = refl; members = sym (length-set ends.members at _); clients = refl; stations = refl })
+    (λ at c is. record { controllers = refl; members = refl; clients = sym (length-set ends.clients at _); stations = refl }) end
 
 pub hear_same : (end : EndId) (what : Event) (s : State) → SameEnds s.ends (hear end what s).state.ends
 hear_same end what s = step_same end what s.moment s.ends s.chances
@@ -212,9 +212,9 @@ acts_stay plan end what s given b facts = changed_stays plan s (perform_quietly 
 pub renew_same : (end : EndId) (s : State) → SameEnds s.ends (renewed end s).ends
 renew_same end s =
     renew_by (λ (one : EndId) (ends : EndStates). SameEnds s.ends ends) s (λ one. same_ends s.ends)
-    (λ at c is. record { controllers = sym (length-set s.ends.controllers at _); members = refl; clients = refl })
-    (λ at plan is. record { controllers = refl; members = sym (length-set s.ends.members at _); clients = refl })
-    (λ at plan is. record { controllers = refl; members = refl; clients = sym (length-set s.ends.clients at _) }) end
+    (λ at c is. record { controllers = sym (length-set s.ends.controllers at _); members = refl; clients = refl; stations = refl })
+    (λ at plan is. record { controllers = refl; members = sym (length-set s.ends.members at _); clients = refl; stations = refl })
+    (λ at plan is. record { controllers = refl; members = refl; clients = sym (length-set s.ends.clients at _); stations = refl }) end
 
 renew_free : (end : EndId) (s : State) (messages : List MessageTaken) → KeepFree s.ends.members messages → KeepFree (renewed end s).ends.members messages
 renew_free end s messages free =
@@ -230,7 +230,7 @@ renew_stays plan end s given b facts =
 pub change_same : (at : ℕ) (secret : List ℕ) (s : State) → SameEnds s.ends (changed at secret s).state.ends
 change_same at secret s =
     by_change (λ (ends : EndStates) (actions : List Action). SameEnds s.ends ends) at secret s.ends (same_ends s.ends)
-    (λ running is none. record { controllers = refl; members = sym (length-set s.ends.members at _); clients = refl })
+    (λ running is none. record { controllers = refl; members = sym (length-set s.ends.members at _); clients = refl; stations = refl })
 
 change_tells : (at : ℕ) (secret : List ℕ) (s : State) → told_in (given_by (Member at) (changed at secret s).actions) 0 ≡ []
 change_tells at secret s = by_change (λ (ends : EndStates) (actions : List Action). told_in (given_by (Member at) actions) 0 ≡ []) at secret s.ends refl (λ running is none. refl)

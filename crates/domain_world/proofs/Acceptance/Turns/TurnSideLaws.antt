@@ -37,7 +37,7 @@ use Rattle.step_notes.specs.Served.{units_if_taken}
 use Rattle.step_notes.proofs.Members.KeptLogonLaws.{IfDialled, KeptIn, each_so, kept_so, one_before}
 use Rattle.step_notes.proofs.Members.UnservedLaws.{LinksIn, in_so}
 use Rattle.world_moves.specs.declared.links.EndId.{EndId}
-use Rattle.world_moves.specs.declared.links.EndId.TheVariants.{Controller, Member, Client}
+use Rattle.world_moves.specs.declared.links.EndId.TheVariants.{Controller, Member, Client, Station}
 use Rattle.world_moves.specs.declared.links.Route.{Route}
 use Rattle.world_moves.specs.declared.links.Route.TheVariants.{ToController}
 use Rattle.world_moves.specs.declared.plan.Plan.{Plan}
@@ -50,7 +50,7 @@ use Rattle.world_moves.specs.Moving.{end_of_peer}
 use Rattle.world_moves.specs.Plain.{plain_member_step as member_step}
 use Rattle.domain_world.specs.Accepting.Carried.{CallsHaveNumbers, IsWholeUnit}
 use Rattle.domain_world.specs.Accepting.ReadBack.{IsLetInInTurn}
-use Rattle.domain_world.specs.Accepting.Runs.{AskedIsOut, IsOut, IsQuiet, IsQuietTurn}
+use Rattle.domain_world.specs.Accepting.Runs.{AskedIsOut, IsOut, NothingIsOpen, IsQuietTurn}
 use Rattle.domain_world.specs.Claims.{HasController}
 use Rattle.domain_world.specs.Past.{Delivery, answers_by, at_member, controller_number, controller_of_plan, first_of, note_member, note_messages, numbers_on, told_in, controller_asked}
 use Rattle.domain_world.proofs.Acceptance.Heard.AnswerReadLaws.{HearsWhole}
@@ -76,7 +76,7 @@ use Rattle.wire_base.proofs.AllLaws.{all_join}
 -- link of its turn, and accepted those whose challenge hasn't served; a Logon call that is out is that of its message;
 -- and the calls of a channel have different numbers.
 pub record TurnSide (plan : Plan) (s : State) (b : Book) : Type 0 where
-  pub quiet : IsQuiet s
+  pub quiet : NothingIsOpen s
   pub asks : (k : ℕ) (m : MemberState) → slice_get s.ends.members k ≡ Some m → AsksUnlessStopped m.running
   pub dialled : (k : ℕ) (m : MemberState) → slice_get s.ends.members k ≡ Some m → KeptIn (λ (place : ℕ) (logon : Logon). Unit {0}) (λ (number : ℕ). IsDialledBy s.links k number) m.running
   pub accepts : (k : ℕ) (m : MemberState) → slice_get s.ends.members k ≡ Some m → LinksIn (λ (number : ℕ) (p : Phase). IsAcceptedBy s.links k number) m.running
@@ -90,6 +90,7 @@ named_there None ends few = absurd (omega (arith, few))
 named_there (Some (Controller at)) ends few = refl
 named_there (Some (Member at)) ends few = absurd (omega (arith, few))
 named_there (Some (Client at)) ends few = absurd (omega (arith, few))
+named_there (Some (Station at)) ends few = absurd (omega (arith, few))
 
 own_controller : (found : Option MemberPlan) (ends : EndStates) → controller_of_plan found ends < length ends.controllers → HasController found ends (controller_of_plan found ends)
 own_controller None ends few = absurd (omega (arith, few))
@@ -202,7 +203,7 @@ module _ (plan : Plan) (k : ℕ) (w : Delivery) (piece : List ℕ) (s after : St
       (subst (λ (units : List Sent). slice_get units n ≡ Some one) (sym (turns_sent who w (units_of r) s after (first_book r))) there)
 
   pub ends_same : (r : Option Running) → SameEnds s.ends (heard r).state.ends
-  ends_same r = record { controllers = refl; members = sym (length-set s.ends.members k _); clients = refl }
+  ends_same r = record { controllers = refl; members = sym (length-set s.ends.members k _); clients = refl; stations = refl }
 
   -- with the messages that are taken then
   pub first_facts : (r : Option Running) (told : List OutcomeTold) → slice_get s.ends.members k ≡ Some (member r) → LinksIn (λ (number : ℕ) (p : Phase). IsAcceptedBy s.links k number) r →

@@ -1,4 +1,4 @@
--- In every run in which nothing seals each unit that is marked as the reply to an opening is that of one that was
+-- In every run of a plain plan each unit that is marked as the reply to an opening is that of one that was
 -- accepted, whether controllers hand logons on or not. It serves `Proved.opened`.
 use Rattle.std.proofs.Common.{◌≡◌, ℕ, ◌+◌, ◌&&◌, not, Bool, true, false, List, [], ◌∷◌, ◌++◌, drop, length, map, Option, Some, None, inl, inr, refl, sym, ap, ◌∙◌, subst, slice_get}
 use Rattle.std.specs.List.{AllByRecursion}
@@ -32,7 +32,7 @@ use Rattle.world_moves.specs.declared.links.EndId.TheVariants.{Controller, Membe
 use Rattle.world_moves.specs.declared.moves.Move.{Move}
 use Rattle.world_moves.specs.declared.plan.Plan.{Plan}
 use Rattle.world_moves.specs.declared.state.State.{State}
-use Rattle.world_moves.specs.Plain.{NothingSeals, plain_controller_step as controller_step, plain_member_step as member_step}
+use Rattle.world_moves.specs.Plain.{IsPlainPlan, plain_controller_step as controller_step, plain_member_step as member_step}
 use Rattle.domain_world.specs.Claims.OpeningReplies.{IsReplyOfOpening, RepliesAnswerOpenings}
 use Rattle.domain_world.specs.Past.{Delivery, accepted_of, answers_of, asked_in_turn, asking_by, asking_marks, asking_notes, at_controller, beside_mark, forward_mark, heard_marks, is_sent_on, mark_or, marks_of, note_at, note_member, numbers_on, onto, past, still_waits}
 use Rattle.world_moves.specs.Choosing.{places_from}
@@ -164,7 +164,7 @@ openings_hold = record {
 
 -- ---- a run
 
-pub replies_answer_openings : (plan : Plan) (moves : List Move) → NothingSeals plan → RepliesAnswerOpenings (past plan moves)
+pub replies_answer_openings : (plan : Plan) (moves : List Move) → IsPlainPlan plan → RepliesAnswerOpenings (past plan moves)
 replies_answer_openings plan moves nothing = record {
   replies = λ number sent marked.
       let of : IsOfUnit OfUnit (past plan moves).book.accepted (past plan moves).world.state.bag number sent.mark =

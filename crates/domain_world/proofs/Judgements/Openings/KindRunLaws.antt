@@ -28,7 +28,7 @@ use Rattle.world_moves.specs.declared.moves.Move.{Move}
 use Rattle.world_moves.specs.declared.plan.Plan.{Plan}
 use Rattle.world_moves.specs.declared.state.State.{State}
 use Rattle.world_moves.specs.Ends.{fresh_controller}
-use Rattle.world_moves.specs.Plain.{NothingSeals, plain_world}
+use Rattle.world_moves.specs.Plain.{IsPlainPlan, plain_world}
 use Rattle.domain_world.specs.Claims.ChannelKinds.{IsAsOpened, IsCheckedAsOpened, IsHandedOnBy, IsLastOpened, KindsFollowOpenings}
 use Rattle.domain_world.specs.Claims.Openings.{last_accepted}
 use Rattle.domain_world.specs.Past.{Delivery, accepted_of, answers_of, at_controller, judged_of, note_at, note_controller, numbers_on, onto, past}
@@ -169,7 +169,7 @@ first_stands plan = record {
   checked = tt;
 }
 
-kinds_stand : (plan : Plan) (moves : List Move) → NothingSeals plan → KindsStand (past plan moves).book.accepted (past plan moves).book.judged (past plan moves).world.state.ends.controllers
+kinds_stand : (plan : Plan) (moves : List Move) → IsPlainPlan plan → KindsStand (past plan moves).book.accepted (past plan moves).book.judged (past plan moves).world.state.ends.controllers
 kinds_stand plan moves nothing = controllers_after kinds_of Stand stand_on plan moves nothing (first_stands plan)
 
 -- ---- a call that is handed on
@@ -256,7 +256,7 @@ all_handed : (accepted : List ChannelAccepted) (judgings : List Judging) → All
 all_handed accepted [] so checked = tt
 all_handed accepted (j ∷ judgings) so checked = (handed_by accepted j so.0 checked.0, all_handed accepted judgings so.1 checked.1)
 
-pub kinds_follow : (plan : Plan) (moves : List Move) → NothingSeals plan → KindsFollowOpenings (past plan moves)
+pub kinds_follow : (plan : Plan) (moves : List Move) → IsPlainPlan plan → KindsFollowOpenings (past plan moves)
 kinds_follow plan moves nothing =
     let accepted : List ChannelAccepted = (past plan moves).book.accepted in
     let stands : KindsStand accepted (past plan moves).book.judged (past plan moves).world.state.ends.controllers = kinds_stand plan moves nothing in

@@ -30,7 +30,7 @@ use Rattle.world_moves.specs.declared.plan.Plan.{Plan}
 use Rattle.world_moves.specs.declared.state.State.{State}
 use Rattle.world_moves.specs.World.{first_controllers}
 use Rattle.world_moves.specs.Ends.{fresh_controller}
-use Rattle.world_moves.specs.Plain.{NothingSeals, plain_world}
+use Rattle.world_moves.specs.Plain.{IsPlainPlan, plain_world}
 use Rattle.domain_world.specs.Claims.Openings.{IsLastAccepted, IsUnused, OpeningsAreInOrder, last_accepted}
 use Rattle.step_notes.specs.TrustNotes.{trust_judged_answer}
 use Rattle.domain_world.specs.Past.{Delivery, accepted_of, answers_of as trusting_answers, at_controller, first_of, later_of, numbers_on, onto, past, replied_with}
@@ -477,11 +477,11 @@ first_follows plan =
           plan.controllers at c there waits);
     }
 
-openings_follow : (plan : Plan) (moves : List Move) → NothingSeals plan → OpeningsFollow (past plan moves).book.accepted (past plan moves).world.state.chances.left (past plan moves).world.state.ends.controllers
+openings_follow : (plan : Plan) (moves : List Move) → IsPlainPlan plan → OpeningsFollow (past plan moves).book.accepted (past plan moves).world.state.chances.left (past plan moves).world.state.ends.controllers
 openings_follow plan moves nothing = controllers_after acceptings_of Follows follow_trusting plan moves nothing (first_follows plan)
 
 -- in every run openings are accepted in order
-pub openings_in_order : (plan : Plan) (moves : List Move) → NothingSeals plan → OpeningsAreInOrder (past plan moves)
+pub openings_in_order : (plan : Plan) (moves : List Move) → IsPlainPlan plan → OpeningsAreInOrder (past plan moves)
 openings_in_order plan moves nothing =
     let accepted : List ChannelAccepted = (past plan moves).book.accepted in
     let left : List (List ℕ) = (past plan moves).world.state.chances.left in

@@ -87,7 +87,7 @@ module _ (plan : Plan) where
       let grows : GrowsTo s t b b = record {
         bag = kept_same s.bag;
         sent = λ k one there. there;
-        ends = record { controllers = refl; members = refl; clients = sym (length-set s.ends.clients client _) };
+        ends = record { controllers = refl; members = refl; clients = sym (length-set s.ends.clients client _); stations = refl };
       } in
       all_stay plan s t b b refl grows given (given ++ given_by (Client client) actions) (λ challenge was. was) refl refl
       (λ who. omega (arith, given_append (asking_end who) given (given_by (Client client) actions), given_other (asking_end who) (Client client) actions (not_client who client))) (λ n number timestamp e there. there)

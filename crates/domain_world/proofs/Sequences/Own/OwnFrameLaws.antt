@@ -114,7 +114,7 @@ module _ (plans : List MemberPlan) (ends : EndStates) (dials : List WaitingDial)
   -- an end that isn't there does nothing
   nothing_heard : (end : EndId) (drawn : List (List ℕ)) → Before drawn → TurnsHold later (given_by end [] ++ rest) plans ends dials drawn (given ++ given_by end []) turns
   nothing_heard end drawn holds =
-      others_hold ends end [] drawn drawn refl (record { controllers = refl; members = refl; clients = refl }) (λ who. refl) (λ challenge is. is) holds
+      others_hold ends end [] drawn drawn refl (record { controllers = refl; members = refl; clients = refl; stations = refl }) (λ who. refl) (λ challenge is. is) holds
 
   abbrev Heard : EndId → EndStep → Type 0
   Heard end step = TurnsKnown later (given_by end step.actions ++ rest) plans step.ends dials step.chances (given ++ given_by end step.actions) turns
@@ -123,14 +123,14 @@ module _ (plans : List MemberPlan) (ends : EndStates) (dials : List WaitingDial)
   controller_hears : (step : Stepped ControllerState) (at : ℕ) (chances : Drawing) → (Differ chances.drawn → Before chances.drawn) → Heard (Controller at) (controller_done step at ends chances)
   controller_hears step at chances known differ =
       others_hold (record ends { controllers = slice_set ends.controllers at step.state }) (Controller at) (actions_by step.answer) chances.drawn (chances.drawn ++ step.drawn) refl
-      (record { controllers = length-set ends.controllers at step.state; members = refl; clients = refl })
+      (record { controllers = length-set ends.controllers at step.state; members = refl; clients = refl; stations = refl })
       (λ who. given_other (asking_end who) (Controller at) (actions_by step.answer) (not_controller who at)) (λ challenge is. drawn_still challenge chances.drawn step.drawn is)
       (known (differ_front chances.drawn step.drawn differ))
 
   client_hears : (step : Stepped ClientState) (at : ℕ) (chances : Drawing) → (Differ chances.drawn → Before chances.drawn) → Heard (Client at) (client_done step at ends chances)
   client_hears step at chances known differ =
       others_hold (record ends { clients = slice_set ends.clients at step.state }) (Client at) (actions_by step.answer) chances.drawn (chances.drawn ++ step.drawn) refl
-      (record { controllers = refl; members = refl; clients = length-set ends.clients at step.state })
+      (record { controllers = refl; members = refl; clients = length-set ends.clients at step.state; stations = refl })
       (λ who. given_other (asking_end who) (Client at) (actions_by step.answer) (not_client who at)) (λ challenge is. drawn_still challenge chances.drawn step.drawn is)
       (known (differ_front chances.drawn step.drawn differ))
 
@@ -177,7 +177,7 @@ pub begin_holds : (client : ℕ) (state : ClientState) (actions : List Action) (
     TurnsKnown None (given_by (Client client) actions ++ []) plans (with_client client state ends) dials chances (given_by (Client client) actions) turns
 begin_holds client state actions plans ends dials chances turns known differ =
     others_hold plans ends dials None None [] [] turns (λ who. omega arith) (with_client client state ends) (Client client) actions chances.drawn chances.drawn refl
-    (record { controllers = refl; members = refl; clients = length-set ends.clients client state }) (λ who. given_other (asking_end who) (Client client) actions (not_client who client)) (λ challenge is. is) (known differ)
+    (record { controllers = refl; members = refl; clients = length-set ends.clients client state; stations = refl }) (λ who. given_other (asking_end who) (Client client) actions (not_client who client)) (λ challenge is. is) (known differ)
 
 -- ---- a member begins to change its secret
 

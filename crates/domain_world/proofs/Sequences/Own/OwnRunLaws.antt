@@ -26,7 +26,7 @@ use Rattle.member_server.proofs.AskedLaws.{asks_what_waits}
 use Rattle.step_notes.specs.MemberNotes.{stamped, turn_by, turn_in, turn_of}
 use Rattle.step_notes.specs.Records.{ChannelTurn, OfMember, same_requester, RequesterId}
 use Rattle.world_moves.specs.declared.links.EndId.{EndId}
-use Rattle.world_moves.specs.declared.links.EndId.TheVariants.{Controller, Member, Client}
+use Rattle.world_moves.specs.declared.links.EndId.TheVariants.{Controller, Member, Client, Station}
 use Rattle.world_moves.specs.declared.moves.Move.{Move}
 use Rattle.world_moves.specs.declared.plan.Plan.{Plan}
 use Rattle.world_moves.specs.declared.state.State.{State}
@@ -44,10 +44,10 @@ use Rattle.domain_world.proofs.Sequences.DialWalkLaws.{AtState, KeepsDials, dial
 use Rattle.domain_world.proofs.Sequences.Own.OwnFrameLaws.{change_holds, TurnsHold, TurnsKnown, begin_holds, hear_holds, same_turns}
 use Rattle.domain_world.proofs.Sequences.Own.OwnTurnLaws.{AreDrawn, TurnsIf, TurnsOf, both_drawn, mine, times, turn_drawn}
 use Rattle.domain_world.proofs.Sequences.SeedTurnLaws.{Turned, on_channel, stamps_on, turned_blank}
-use Rattle.domain_world.proofs.Moves.RequesterLaws.{asked_alike, asked_in, asked_now, asking_end, asks_at, not_controller, not_client, asker_in, RunsWith, asker_runs, stands_open, asker_first, asker_same, asked_put, same_is, same_asks}
+use Rattle.domain_world.proofs.Moves.RequesterLaws.{asked_alike, asked_in, asked_now, asking_end, asks_at, not_controller, not_client, asker_in, RunsWith, asker_runs, stands_open, asker_first, asker_same, asked_put, same_is, same_asks, not_station}
 use Rattle.domain_world.proofs.Calls.CallHoldsLaws.{SameNumbers}
 use Rattle.world_moves.proofs.KeptLaws.{plans_alike}
-use Rattle.world_moves.specs.Plain.{NothingSeals, plain_world, renew_plain_member as renew_member}
+use Rattle.world_moves.specs.Plain.{IsPlainPlan, plain_world, renew_plain_member as renew_member}
 
 -- ---- dials
 
@@ -130,11 +130,11 @@ renews_hold how kinds end s turns known =
     kinds.renews (λ (one : EndId) (t : State). IfMember (λ (at : ℕ). waiting_dials (Member at) dials ≡ 0) one → AtState TurnsKnown None [] t [] turns) (forget end s) (λ one none. forgotten)
     (λ at c new is none differ.
     other_renewed s.member_plans s.ends dials s.chances.drawn turns (record s.ends { controllers = slice_set s.ends.controllers at new }) refl
-    (record { controllers = length-set s.ends.controllers at new; members = refl; clients = refl }) (forgotten differ))
+    (record { controllers = length-set s.ends.controllers at new; members = refl; clients = refl; stations = refl }) (forgotten differ))
     (λ at plan is none differ. member_renewed s.member_plans s.ends dials s.chances.drawn turns plan at (none at refl) (forgotten differ))
     (λ at new none differ.
     other_renewed s.member_plans s.ends dials s.chances.drawn turns (with_client at new s.ends) refl
-    (record { controllers = refl; members = refl; clients = length-set s.ends.clients at new }) (forgotten differ)) end
+    (record { controllers = refl; members = refl; clients = length-set s.ends.clients at new; stations = refl }) (forgotten differ)) end
     (λ at is. subst (λ (one : EndId). waiting_dials (Member at) (filter (is_of_other one) s.dials) ≡ 0) (sym is) (gone_all (Member at) s.dials))
 
 -- ---- the turns of a move are written down
@@ -197,6 +197,7 @@ module _ (s : State) where
       ((who : RequesterId) (peer : List ℕ) → P (asking_end who) (Dial peer) (turn_now who)) → (end : EndId) (what : Action) → P end what (turns_by end what s)
   turn_cases P none dials (Controller at) what = none (Controller at) what (λ who. ap (λ (hit : Bool). counted hit what) (not_controller who at))
   turn_cases P none dials (Client at) what = none (Client at) what (λ who. ap (λ (hit : Bool). counted hit what) (not_client who at))
+  turn_cases P none dials (Station at) what = none (Station at) what (λ who. ap (λ (hit : Bool). counted hit what) (not_station who at))
   turn_cases P none dials (Member j) (Dial peer) =
       subst (P (Member j) (Dial peer)) (of_member (asked_in (OfMember j) s.member_plans s.ends) j (running_in (slice_get s.ends.members j))) (dials (OfMember j) peer)
   turn_cases P none dials (Member j) (Keep bytes) = none (Member j) (Keep bytes) (λ who. none_counted (asks_at who (Member j)) (Keep bytes) refl)
@@ -347,10 +348,10 @@ own_seed s who channel o turns holds stands =
     ∙ ap (λ (l : List ChannelTurn). channel_seed channel (stamps_on channel l)) (append-nil (mine who turns))
     ∙ ap (channel_seed channel) (own_stamps who channel turns)
 
--- what is known of turns holds after every run in which nothing seals
-pub turns_after : (plan : Plan) (moves : List Move) → NothingSeals plan → AtState TurnsKnown None [] (past plan moves).world.state [] (past plan moves).book.turns
+-- what is known of turns holds after every run of a plain plan
+pub turns_after : (plan : Plan) (moves : List Move) → IsPlainPlan plan → AtState TurnsKnown None [] (past plan moves).world.state [] (past plan moves).book.turns
 turns_after plan moves nothing = dials_after TurnsKnown (turns_keep every every_kinds) plan moves nothing (first_known plan)
 
-pub sequences_own : (plan : Plan) (moves : List Move) → NothingSeals plan → SequencesAreOwn (past plan moves)
+pub sequences_own : (plan : Plan) (moves : List Move) → IsPlainPlan plan → SequencesAreOwn (past plan moves)
 sequences_own plan moves nothing who channel o stands =
     own_seed (past plan moves).world.state who channel o (past plan moves).book.turns (turns_after plan moves nothing (draws_differ plan moves)) stands

@@ -1,5 +1,5 @@
-use Rattle.domain_world.proofs.Acceptance.AnsweredRunLaws.{is_proved}
+use Rattle.domain_world.proofs.Acceptance.AnsweredRunLaws.{answers_judged}
 use Rattle.domain_world.proofs.accepting.runs_are_proved.Goals as goal
 
 pub returns : goal.returns
-returns c = is_proved
+returns c = answers_judged

@@ -38,5 +38,5 @@ returns-in-Ok-act-clause-from_plan c = λ plan earlier was. move_on plan earlier
 pub returns-clause-outcomes : goal.returns-clause-outcomes
 returns-clause-outcomes c = λ client.
     fallen c.self.inside.state.ends.clients c.act.new.self.ends.clients c.give_up.new.self.clients c.as_slice.result.now (c.as_slice.ensures.value ∙ c.in-Ok.ensures)
-    c.in-Err-act.ensures.outcomes c.give_up.ensures client
+    c.in-Err-act.ensures.outcomes c.give_up.ensures.clients client
     ∙ ap (λ (w : World). outcome_of w client) c.self.view_is
