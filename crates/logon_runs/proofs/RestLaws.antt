@@ -183,6 +183,7 @@ comes_so plan s rest client member controller can account number is forms accoun
         ranged = able.ranged;
         named = able.named;
         account_so = account_so;
+        alone = refl;
       };
       under_way = phases_go_on.begins coming s number lr.client s.chances.left s.moment chosen (ap (λ (plans : List ClientPlan). slice_get plans client) rest.plans ∙ can.is_task)
           (rests_seen plan s rest client member controller three account secret.machine);

@@ -37,18 +37,20 @@ use Rattle.logon_steps.specs.Answering.{IsInStep, moved}
 use Rattle.logon_steps.specs.Answers.{AreDraws, HasUnits, logon_for}
 use Rattle.logon_steps.specs.Calling.{HasShortCaller, HasShortInfo}
 use Rattle.logon_steps.specs.Granting.{cleared, info_told}
-use Rattle.logon_steps.specs.Turning.{turn_request}
+use Rattle.logon_steps.specs.BesideTrusts.{AtTrusts, Keeping}
+use Rattle.logon_steps.specs.Turning.{IsTurnCall, turn_request}
 use Rattle.logon_steps.specs.ControllerTurns.{controller_at, passed_reply, reply_bytes, turn_link}
 use Rattle.logon_steps.specs.Meeting.{bound_for, flags_agreed}
 use Rattle.logon_steps.specs.MemberAnswers.{granting}
 use Rattle.logon_steps.specs.MemberLinks.{asked_talk}
 use Rattle.logon_steps.proofs.AnsweringLaws.{calls_are_answered}
 use Rattle.logon_steps.proofs.CallingLaws.{calls_can_go}
+use Rattle.logon_steps.proofs.BesideTrustsLaws.{trusts_stay_beside}
 use Rattle.logon_steps.proofs.ControllerTurnLaws.{controllers_step}
 use Rattle.logon_steps.proofs.GrantingLaws.{logons_are_granted}
 use Rattle.logon_runs.specs.Scenes.LinkScenes.{Meeting, its_link}
 use Rattle.logon_runs.specs.Runs.{ClientAnswer, TurnsRun, connects, goes, hidden, info_asked, meets, message_for, sam_for, starts, with_moved}
-use Rattle.logon_runs.specs.Scenes.AskScenes.{turn_of, with_talk}
+use Rattle.logon_runs.specs.Scenes.AskScenes.{kept_by, turn_of, with_talk}
 use Rattle.logon_runs.specs.Scenes.TurnScenes.{IsBetween, TurnScene, next_turn, with_accounts}
 use Rattle.logon_runs.specs.Scenes.Staying.{HasSameEnds}
 use Rattle.logon_runs.proofs.Scenes.AskSceneLaws.{logons_are_seen}
@@ -114,8 +116,12 @@ turns_run = record {
       let held : TurnScene = with_talk g.link (asked_talk (bound_for g.task) g.place (who.sent ∷ [])) t in
       let turn : TurnScene = next_turn held (its_link g) how in
       let later : Computers = with_moved g c stamp computers in
-      let answered = grants_so g a o c table name account computers (length g.links) (after g.number) moment left is.next is.caller is.info is.channel is.in_step is.can is.units
-      is.draws is.found is.hash is.may in
+      let goes_so : IsTurnCall call = calls_can_go.logon g.caller o stamp (info_asked g a) is.caller (timestamp_below moment) is.info in
+      let kept : Keeping = kept_by g table name computers in
+      let answered = trusts_stay_beside.called kept (length g.links) moment (after g.number) call left left _ _ _ g.trusts.nobody is.next goes_so
+      (trusts_stay_beside.alone kept call (ap (λ (trusts : AtTrusts). trusts.requesters) is.alone))
+      (grants_so g a o c table name account computers (length g.links) (after g.number) moment left is.next is.caller is.info is.channel is.in_step is.can is.units
+      is.draws is.found is.hash is.may) in
       let accounts : AccountTable = cleared table g.task.user in
       let s1 : State = goes s in
       let s2 : State = goes s1 in
@@ -128,7 +134,7 @@ turns_run = record {
       (turns_have_links.met g held how is.joined) (turns_have_links.taken g held how is.joined)
       (turns_are_seen.judges s5 turn (after (after g.number)) (after g.number) (step.Reply question.Logon) call (granting o stamp 0 1 (hidden o sam)) (judged.Passed 0) computers later accounts left left moment
       (turns_have_links.between g held how is.joined)
-      (calls_can_go.logon g.caller o stamp (info_asked g a) is.caller (timestamp_below moment) is.info) answered
+      goes_so answered
       (turns_are_seen.asks s4 turn (after g.number) g.number call computers left moment (turns_have_links.between g held how is.joined) is.number
       (turns_are_seen.bound s3 turn (after g.number) g.number (step.Bind call) computers left moment (turns_have_links.between g held how is.joined) is.number
       (turns_are_seen.dialled s2 held (its_link g) how (after g.number) g.number (step.Bind call) computers [] left moment

@@ -58,6 +58,7 @@ use Rattle.world_moves.specs.Moving.{act, end_of_peer, start}
 use Rattle.world_moves.specs.declared.moves.Move.{Move}
 use Rattle.logon_steps.specs.Answering.{IsInStep, auth_value, moved, pair_of}
 use Rattle.logon_steps.specs.Answers.{AreDraws, HasUnits, answer_for, auth3_for, drawn_of, logon_for, terms_for}
+use Rattle.logon_steps.specs.BesideTrusts.{at_no_trusts}
 use Rattle.logon_steps.specs.Calling.{HasShortCaller, HasShortInfo}
 use Rattle.logon_steps.specs.ClientSteps.{client_at, client_ended}
 use Rattle.logon_steps.specs.ControllerTurns.{one_link, reply_bytes, turn_link}
@@ -434,6 +435,8 @@ pub record IsKnown (p : Arrival) : Type 0 where
   pub ranged : InRangeTable p.table
   pub named : IsName p.name
   pub account_so : InRangeAccount p.account
+  -- its controller asks no other for a logon
+  pub alone : p.meeting.trusts ≡ at_no_trusts
 
 -- the controller has the user's hash among those accounts, or those with which the logon began
 pub record HasUserIn (p : Arrival) (table : AccountTable) : Type 0 where

@@ -39,6 +39,7 @@ use Rattle.world_moves.specs.declared.moves.Move.{Move}
 use Rattle.world_moves.specs.World.{IsPlan, first_ends, first_world}
 use Rattle.logon_steps.specs.Answering.{IsInStep}
 use Rattle.logon_steps.specs.ClientSteps.{client_ended}
+use Rattle.logon_steps.specs.BesideTrusts.{at_no_trusts}
 use Rattle.logon_steps.specs.ControllerTurns.{controller_at}
 use Rattle.logon_steps.specs.MemberLinks.{logons_resting}
 use Rattle.member_server.specs.Secrets.{tried_of}
@@ -205,6 +206,7 @@ coming_at plan s rest client member controller can account machine =
         place = work.place;
         number = work.number;
         controller = controller_at desk.table desk.name desk.computers [];
+        trusts = at_no_trusts;
         links = s.links;
         link = 0;
       };

@@ -33,6 +33,7 @@ use Rattle.world_moves.specs.Moving.{connect, end_of_peer, onward, start}
 use Rattle.logon_steps.specs.Answering.{IsInStep, moved}
 use Rattle.logon_steps.specs.Answers.{AreDraws, HasUnits, answer_for, auth3_for, drawn_of, logon_for, terms_for}
 use Rattle.logon_steps.specs.Asking.{info_at}
+use Rattle.logon_steps.specs.BesideTrusts.{at_no_trusts}
 use Rattle.logon_steps.specs.Calling.{HasShortCaller, HasShortInfo}
 use Rattle.logon_steps.specs.Granting.{base_key, cleared, info_told}
 use Rattle.logon_steps.specs.Meeting.{HasShortNames, challenged_talk, flags_agreed}
@@ -95,6 +96,8 @@ pub record IsToBeGranted (g : Meeting) (a : ClientAnswer) (o c : SecureChannelSt
   pub short : length (name_in (sam_shown o (hidden o (sam_for g a table name account moment)))) ≤ 32767
   pub number : g.number < 2 ^ 32
   pub next : after g.number < 2 ^ 32
+  -- its controller asks no other for a logon
+  pub alone : g.trusts ≡ at_no_trusts
 
 -- the state after the oldest unit came
 abbrev pub goes : State → State

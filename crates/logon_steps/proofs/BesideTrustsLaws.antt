@@ -1,6 +1,6 @@
 -- What a controller that trusts other domains makes of what it hears, while it asks no other controller for a logon.
 -- Of `trusts_stay_beside`.
-use Rattle.std.proofs.Common.{◌≡◌, ℕ, Bool, true, List, [], ◌∷◌, length, nat_lt, Option, Some, None, Ok, Err, slice_get, refl, sym, ap, ap₂, ◌∙◌, arith, if◌then◌else◌}
+use Rattle.std.proofs.Common.{◌≡◌, ℕ, Bool, true, false, List, [], ◌∷◌, length, nat_lt, Option, Some, None, Ok, Err, slice_get, refl, sym, ap, ap₂, ◌∙◌, arith, if◌then◌else◌}
 use Rattle.std.proofs.lemmas.Bool.Decides.{nat_tests}
 use Rattle.std.proofs.lemmas.Option.{slice_get_within}
 use Rattle.outside.specs.declared.action.Action.{Action}
@@ -20,9 +20,11 @@ use Rattle.logon_stubs.specs.declared.calls.Call.TheVariants as call
 use Rattle.logon_stubs.specs.declared.calls.LogonCall.{LogonCall}
 use Rattle.account_table.specs.AccountTable.{AccountTable}
 use Rattle.account_table.specs.declared.table.Route.{Route}
+use Rattle.account_table.specs.declared.table.Route.TheVariants as route
 use Rattle.account_table.specs.LookUps.{route_in}
 use Rattle.logon_stubs.specs.declared.info.NetworkInfo.{NetworkInfo}
-use Rattle.controller_calls.specs.Handing.{trust_below, trust_by, trust_for}
+use Rattle.controller_calls.specs.Handing.{hands_on, trust_below, trust_by, trust_for}
+use Rattle.channel_client.specs.State.{Requester}
 use Rattle.controller_calls.specs.Logons.{serves_level}
 use Rattle.controller_calls.specs.declared.calls.Asked.TheVariants as asked
 use Rattle.controller_calls.specs.declared.calls.ControllerCall.TheVariants as controller_call
@@ -42,7 +44,7 @@ use Rattle.domain_controller.specs.TrustStep.{TrustPart, TrustParts, after_units
 use Rattle.domain_controller.specs.declared.state.Talk.{Talk}
 use Rattle.domain_controller.specs.declared.trusting.Parts.{Parts}
 use Rattle.domain_controller.proofs.HandOnLaws.{forwards_by_trust}
-use Rattle.logon_steps.specs.BesideTrusts.{AnswersBesideTrusts, Keeping, StaysHere, alone_at, keeping_at, kept_with, none_asked}
+use Rattle.logon_steps.specs.BesideTrusts.{AnswersBesideTrusts, AtTrusts, Keeping, StaysHere, alone_at, keeping_at, keeping_of, kept_with, none_asked}
 use Rattle.logon_steps.specs.ControllerTurns.{one_link, turn_link}
 use Rattle.logon_steps.specs.SetTurns.{set_request}
 use Rattle.logon_steps.specs.Turning.{turn_ack, turn_agreed, turn_request}
@@ -152,10 +154,27 @@ stays_beside k links (call.Logon c) line talk now left stays =
 stays_beside k links (call.Logoff c) line talk now left stays =
     judged_beside (judged_call.NetworkLogoff c) line talk k.name now (desk_at k links) left (λ goes. absurd (let x = goes.asks in cc))
 
+-- where nobody can be asked, no trust is
+asks_none : (hands serves : Bool) (way : Route) (trusts : ℕ) → trusts ≡ 0 → trust_by hands serves way trusts ≡ None
+asks_none true true (route.Trust trust) trusts none = ap (λ (below : Bool). trust_below below trust) (let is : nat_lt trust trusts ≡ false = grind (arith, nat_tests, none) in is)
+asks_none true true route.Own trusts none = refl
+asks_none true true route.Elsewhere trusts none = refl
+asks_none true false way trusts none = refl
+asks_none false serves way trusts none = refl
+
+stays_alone : (k : Keeping) (c : Call) → k.requesters ≡ [] → StaysHere c k
+stays_alone k (call.Logon c) none =
+    λ computer channel named stands. asks_none (hands_on channel.kind) (serves_level c.validation) (route_in k.table c.info.domain) (length k.requesters) (ap (λ (asks : List Requester). length asks) none)
+stays_alone k (call.Logoff c) none = tt
+stays_alone k (call.Challenge c) none = tt
+stays_alone k (call.Authenticate c) none = tt
+
 -- ---- the steps
 
 pub trusts_stay_beside : AnswersBesideTrusts
 trusts_stay_beside = record {
+  alone = stays_alone;
+  stands = λ table name computers links trusts alone. ap (λ (at : AtTrusts). keeping_at (keeping_of table name computers at) links) alone;
   opened = λ k link now left nobody.
       carried_by k (base_desk (desk_at k [])) (one_link link first_talk) [] now left left left [] k.table k.computers (one_link link first_talk) nobody refl;
   closed = λ k link now talk left nobody.

@@ -46,6 +46,16 @@ none_asked requesters turn = record {
   sealing = None;
 }
 
+-- Those who ask for a controller at trusted domains, of whom nobody waits, and whose turn was out last
+pub record AtTrusts : Type 0 where
+  pub requesters : List Requester
+  pub nobody : NobodyWaits requesters
+  pub turn : ℕ
+
+-- a controller that trusts no domain, or that isn't to hand logons on, asks nowhere
+abbrev pub at_no_trusts : AtTrusts
+at_no_trusts = record { requesters = []; nobody = tt; turn = 0 }
+
 -- What a controller keeps that asks nobody, but for links: accounts, its name, what it keeps of computers, those who
 -- ask, and whose turn was out last
 pub record Keeping : Type 0 where
@@ -54,6 +64,9 @@ pub record Keeping : Type 0 where
   pub computers : Computers
   pub requesters : List Requester
   pub turn : ℕ
+
+abbrev pub keeping_of : AccountTable → List ℕ → Computers → AtTrusts → Keeping
+keeping_of table name computers trusts = record { table = table; name = name; computers = computers; requesters = trusts.requesters; turn = trusts.turn }
 
 abbrev pub keeping_at : Keeping → LinkMap → State
 keeping_at k links = trusting_at k.table k.name k.computers links (none_asked k.requesters k.turn)
@@ -79,6 +92,11 @@ StaysHere (call.Challenge c) k = Unit {0}
 StaysHere (call.Authenticate c) k = Unit {0}
 
 pub record AnswersBesideTrusts : Type 0 where
+  -- a controller that can ask nobody judges each call itself
+  pub alone : (k : Keeping) (c : Call) → k.requesters ≡ [] → StaysHere c k
+  -- and stands as one that trusts nobody
+  pub stands : (table : AccountTable) (name : List ℕ) (computers : Computers) (links : LinkMap) (trusts : AtTrusts) → trusts ≡ at_no_trusts →
+      keeping_at (keeping_of table name computers trusts) links ≡ controller_at table name computers links
   pub opened : (k : Keeping) (link now : ℕ) (left : List (List ℕ)) → NobodyWaits k.requesters →
       trust_step_of (keeping_at k []) (event.Opened link) now left ≡ whole_step left left [] (keeping_at k (one_link link first_talk))
   pub closed : (k : Keeping) (link now : ℕ) (talk : Talk) (left : List (List ℕ)) → NobodyWaits k.requesters →

@@ -308,12 +308,12 @@ module _ (plan : Plan) (client member controller : ℕ) (can : CanComeIn plan cl
       let heard_reply = heard_back (with_accounts accounts t3) _ (after n5) n5 (step.Reply question.Logon) (with_moved j c stamp now_open) _ left plan.now (between_still t3 accounts between3)
       (response_comes n5 question.Logon r is_reply) in
       turn_then s6 (turn_moves ++ turn_moves ++ later) (Fine s6 0) (Fine s7 0) After
-      (challenge_trail s6 t1 n1 j.number one other no_computers paired left plan.now seen.turns.challenge between1 opened.number (after_below j.number) names6 refl opened.caller opened.block opened.server_block opened.knows)
+      (challenge_trail s6 t1 n1 j.number one other no_computers paired left plan.now seen.turns.challenge opened.alone between1 opened.number (after_below j.number) names6 refl opened.caller opened.block opened.server_block opened.knows)
       (turn_then s7 (turn_moves ++ later) (Fine s7 0) (Fine s8 0) After
-      (opening_trail s7 t2 n3 n2 one other can.machine paired now_open left plan.now seen.turns.proof between2 (after_below n1) (after_below n2) (record { plan = names7.plan; reach = names7.reach }) refl opened.caller
+      (opening_trail s7 t2 n3 n2 one other can.machine paired now_open left plan.now seen.turns.proof opened.alone between2 (after_below n1) (after_below n2) (record { plan = names7.plan; reach = names7.reach }) refl opened.caller
       opened.machine_found opened.secret (lookup-put_same same_name j.caller.computer (pair_of one other) no_computers.pending (same_computer j.caller.computer)))
       (turn_then s8 later (Fine s8 0) (FineSo s9 1 (LetsInOn key base)) After
-      (logon_trail s8 t3 accounts n5 n4 stamp o c (info_asked j a) (hidden o sam) (judged.Passed 0) now_open (with_moved j c stamp now_open) left plan.now _ (LetsInOn key base) seen.turns.logon between3 (after_below n3) (after_below n4)
+      (logon_trail s8 t3 accounts n5 n4 stamp o c (info_asked j a) (hidden o sam) (judged.Passed 0) now_open (with_moved j c stamp now_open) left plan.now _ (LetsInOn key base) seen.turns.logon opened.alone between3 (after_below n3) (after_below n4)
       (record { plan = names8.plan; reach = names8.reach }) refl (calls_can_go.logon j.caller o stamp (info_asked j a) opened.caller (timestamp_below plan.now) opened.info) is_reply found in_step named answered
       (λ k b only. (
         lets_in s11 _ _ [] _ left t3.link j.link close.CallDone _ _ _ _ seen.turns.logon.reply heard_reply

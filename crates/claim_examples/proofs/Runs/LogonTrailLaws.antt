@@ -43,6 +43,7 @@ use Rattle.domain_world.specs.Past.{first_of, judged_of, note, onto}
 use Rattle.logon_steps.specs.Answering.{IsInStep}
 use Rattle.secret_change.specs.Secrets.{next_of}
 use Rattle.logon_steps.specs.Asking.{asking_keeping}
+use Rattle.logon_steps.specs.BesideTrusts.{at_no_trusts}
 use Rattle.logon_steps.specs.ControllerTurns.{controller_at, reply_bytes, turn_link}
 use Rattle.logon_steps.specs.MemberAnswers.{granting}
 use Rattle.logon_steps.specs.Turning.{IsTurnCall, IsTurnReply, turn_agreed, turn_request}
@@ -76,14 +77,14 @@ key_in_turn t info = base_key_of (hash_in (account_in t.table.accounts info.user
 
 pub logon_trail : (s : State) (t : TurnScene) (accounts : AccountTable) (next number stamp : ℕ) (o state : SecureChannelState) (info : NetworkInfo) (sam : SamInfo) (how_judged : Judged) (computers kept : Computers)
     (left : List (List ℕ)) (moment : ℕ) (after_step : ControllerState) (Holds : Book → Type 0) →
-    TurnSeen s t (with_accounts accounts t) next number (logon_call t.caller o stamp info) (granting o stamp 0 1 sam) computers kept left left moment → IsBetween t → number < 2 ^ 32 → next < 2 ^ 32 →
+    TurnSeen s t (with_accounts accounts t) next number (logon_call t.caller o stamp info) (granting o stamp 0 1 sam) computers kept left left moment → t.trusts ≡ at_no_trusts → IsBetween t → number < 2 ^ 32 → next < 2 ^ 32 →
     Names s t → t.how ≡ standing.Open (after_call o stamp) → IsTurnCall (logon_call t.caller o stamp info) → IsTurnReply question.Logon (granting o stamp 0 1 sam) →
     lookup same_name t.caller.computer computers.channels ≡ Some state → IsInStep o state → channel_of t.at_controller t.caller.computer state ≡ channel_of t.at_controller t.caller.computer o →
     controller_step_of (controller_at t.table t.name computers (turn_link t.link)) (event.Bytes t.link (bytes_of_call (turn_request next (logon_call t.caller o stamp info)) 5840)) moment left
     ≡ whole_step left left (action.Judged how_judged ∷ action.Send t.link (reply_bytes next (granting o stamp 0 1 sam)) ∷ []) after_step →
     ((k : ℕ) (b : Book) → OnlyTravels (key_of_channel o) (key_in_turn t info) b.judged → Holds (note (world_at k (goes (goes (goes (connects s))))) move.Onward b)) →
     Trail s turn_moves (Fine s 0) (FineSo (go_through_turn s) 1 Holds)
-logon_trail s t accounts next number stamp o state info sam how_judged computers kept left moment after_step Holds seen between below below_next names how is_call is_reply found in_step is_named steps holds =
+logon_trail s t accounts next number stamp o state info sam how_judged computers kept left moment after_step Holds seen alone between below below_next names how is_call is_reply found in_step is_named steps holds =
     let c : Call = logon_call t.caller o stamp info in
     let r : Reply = granting o stamp 0 1 sam in
     let q = question.Logon in
@@ -104,19 +105,19 @@ logon_trail s t accounts next number stamp o state info sam how_judged computers
     ∙ ap (λ (h : Standing). settle (judge q r h t.caller.secret) (asking_keeping t.caller h t.info t.place (after next) (Some (record { number = next; place = t.place; step = step.Reply q })) (next_of t.plan.secrets))) how
     ∙ logons_are_asked.granted t.caller o t.info sam t.place (after next) next stamp 0 1 (next_of t.plan.secrets) in
     turn_trail s t (with_accounts accounts t) next number c r computers kept left left moment 0 (Calling named asks.next_call stamp) (Some t.place)
-    (λ (b : Book). FineAnd s4 1 (Some named) b × OnlyTravels (key_of_channel o) base b.judged) (FineSo (go_through_turn s) 1 Holds) seen between below names
+    (λ (b : Book). FineAnd s4 1 (Some named) b × OnlyTravels (key_of_channel o) base b.judged) (FineSo (go_through_turn s) 1 Holds) seen alone between below names
     (ap (λ (h : Standing). asked_note (Some (step.Reply q)) h t.at_controller asks (wait_for asks t.place (step.Reply q))) how)
     (λ k b f.
     let j : ℕ → Judging = λ unit. judging_of (where_in_turn s3 t next c computers k unit) (turn_line t.link next) (Network _) d then_so in
     let one : (unit : ℕ) → answer_in_turn s3 t next c computers k unit left moment ≡ passing (Some named) (j unit) =
     λ unit. channels_are_named_alike.calls.passes (j unit) computers named refl refl refl has passed in
     let called : Called s3 t next c computers k 1 left moment b =
-    call_comes s3 t (after next) next (step.Reply q) c computers left left moment 0 1 _ _ between below_next is_call steps seen.call k b f.fine
+    call_comes s3 t (after next) next (step.Reply q) c computers left left moment 0 1 _ _ alone between below_next is_call steps seen.call k b f.fine
     (λ unit first. channels_are_named_alike.exchanges.calling (j unit) computers named b.sent refl refl refl has passed (waits_marked s3 (Some named) b unit f.waits first))
     (λ unit numbers. omega (arith, ap (λ (a : Answered). length (judged_of (a ∷ []) numbers)) (one unit))) in (
       reply_waits s3 t next c computers k 0 1 left moment b (reply_bytes next r) (Some named) f.fine called (ReplyTo named next called.came.number)
           (ap (λ (a : Answered). answered_marks (a ∷ [])) (one called.came.number)) refl
-          (judged_bag s3 t (after next) next (step.Reply q) c computers left left moment how_judged (reply_bytes next r) after_step called.came.number between steps seen.call),
+          (judged_bag s3 t (after next) next (step.Reply q) c computers left left moment how_judged (reply_bytes next r) after_step called.came.number alone between steps seen.call),
       subst (OnlyTravels (key_of_channel o) base)
           (sym (called.judged ∙ ap (λ (a : Answered). onto (judged_of (a ∷ []) called.numbers) b.judged) (one called.came.number))) (
             travels_so (record (j called.came.number) { reply = first_of called.numbers }) info o state t.caller.computer passed refl found in_step.key,

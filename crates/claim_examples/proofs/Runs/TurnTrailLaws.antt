@@ -35,6 +35,7 @@ use Rattle.world_moves.specs.declared.state.State.{State}
 use Rattle.logon_steps.specs.Answering.{auth_value, pair_of}
 use Rattle.secret_change.specs.Secrets.{next_of}
 use Rattle.logon_steps.specs.Asking.{asking_keeping}
+use Rattle.logon_steps.specs.BesideTrusts.{at_no_trusts}
 use Rattle.logon_steps.specs.Calling.{HasShortCaller}
 use Rattle.logon_steps.specs.ControllerTurns.{reply_bytes}
 use Rattle.logon_steps.specs.Turning.{turn_agreed}
@@ -65,11 +66,11 @@ names_stay s after t same names = record {
 -- ---- a turn, by what comes of its call and of the reply
 
 pub turn_trail : (s : State) (t later : TurnScene) (next number : ℕ) (c : Call) (r : Reply) (computers kept : Computers) (left rest : List (List ℕ)) (moment count : ℕ) (mark : Mark) (called : Option ℕ)
-    (Replied After : Book → Type 0) → TurnSeen s t later next number c r computers kept left rest moment → IsBetween t → number < 2 ^ 32 → Names s t →
+    (Replied After : Book → Type 0) → TurnSeen s t later next number c r computers kept left rest moment → t.trusts ≡ at_no_trusts → IsBetween t → number < 2 ^ 32 → Names s t →
     asked_note (Some (step.Reply (question_of c))) t.how t.at_controller (channel_in_turn t next number (step.Bind c)) (wait_for (channel_in_turn t next number (step.Bind c)) t.place (step.Reply (question_of c))) ≡ request_note mark called →
     Leads (goes (goes (connects s))) move.Onward (FineAnd (goes (goes (connects s))) count (mark_channel mark)) Replied → Leads (goes (goes (goes (connects s)))) move.Onward Replied After →
     Trail s turn_moves (Fine s count) After
-turn_trail s t later next number c r computers kept left rest moment count mark called Replied After seen between below names note_is calls replies =
+turn_trail s t later next number c r computers kept left rest moment count mark called Replied After seen alone between below names note_is calls replies =
     let s1 : State = connects s in
     let s2 : State = goes s1 in
     let s3 : State = goes s2 in
@@ -78,7 +79,7 @@ turn_trail s t later next number c r computers kept left rest moment count mark 
     let same2 : HasSameEnds s s2 = both_same s s1 s2 (connects_same s) (goes_same s1) in
     then_on s move.Connect (move.Onward ∷ move.Onward ∷ move.Onward ∷ move.Onward ∷ []) (Fine s count) (Fine s1 count) After (connect_fine s count)
     (then_on s1 move.Onward (move.Onward ∷ move.Onward ∷ move.Onward ∷ []) (Fine s1 count) (Fine s2 count) After
-    (bind_leads s1 t next number (step.Bind c) computers left moment count between below seen.bind)
+    (bind_leads s1 t next number (step.Bind c) computers left moment count alone between below seen.bind)
     (then_on s2 move.Onward (move.Onward ∷ move.Onward ∷ []) (Fine s2 count) (FineAnd s3 count (mark_channel mark)) After
     (ack_leads s2 t next number c computers left moment count mark called between below (names_stay s s2 t same2 names) note_is seen.ack)
     (then_on s3 move.Onward (move.Onward ∷ []) (FineAnd s3 count (mark_channel mark)) Replied After calls
@@ -95,10 +96,10 @@ replied_names s t names =
 -- ---- NetrServerReqChallenge
 
 pub challenge_trail : (s : State) (t : TurnScene) (next number : ℕ) (client server : List ℕ) (computers kept : Computers) (left : List (List ℕ)) (moment : ℕ) →
-    TurnSeen s t t next number (challenge_call t.caller client) (reply.Challenge (record { challenge = server; status = 0 })) computers kept (server ∷ left) left moment → IsBetween t → number < 2 ^ 32 → next < 2 ^ 32 →
+    TurnSeen s t t next number (challenge_call t.caller client) (reply.Challenge (record { challenge = server; status = 0 })) computers kept (server ∷ left) left moment → t.trusts ≡ at_no_trusts → IsBetween t → number < 2 ^ 32 → next < 2 ^ 32 →
     Names s t → t.how ≡ standing.Nothing → HasShortCaller t.caller → IsBlock 8 client → IsBlock 8 server → knows_in t.table.accounts t.caller.computer ≡ true →
     Trail s turn_moves (Fine s 0) (Fine (go_through_turn s) 0)
-challenge_trail s t next number client server computers kept left moment seen between below below_next names how caller client_block server_block knows =
+challenge_trail s t next number client server computers kept left moment seen alone between below below_next names how caller client_block server_block knows =
     let c : Call = challenge_call t.caller client in
     let r : Reply = reply.Challenge (record { challenge = server; status = 0 }) in
     let q = question.Challenge client in
@@ -113,9 +114,9 @@ challenge_trail s t next number client server computers kept left moment seen be
     turns_go_through.takes.reply channel next t.place q r is_reply
     ∙ ap (λ (h : Standing). settle (judge q r h t.caller.secret) (asking_keeping t.caller h t.info t.place (after next) (Some (record { number = next; place = t.place; step = step.Reply q })) (next_of t.plan.secrets))) how
     ∙ logons_are_asked.half t.caller t.info t.place (after next) next client server (next_of t.plan.secrets) in
-    turn_trail s t t next number c r computers kept (server ∷ left) left moment 0 Plain None (Fine s4 0) (Fine (go_through_turn s) 0) seen between below names
+    turn_trail s t t next number c r computers kept (server ∷ left) left moment 0 Plain None (Fine s4 0) (Fine (go_through_turn s) 0) seen alone between below names
     (ap (λ (h : Standing). asked_note (Some (step.Reply q)) h t.at_controller (channel_in_turn t next number (step.Bind c)) (wait_for (channel_in_turn t next number (step.Bind c)) t.place (step.Reply q))) how)
-    (λ k b f. (call_comes s3 t (after next) next (step.Reply q) c computers (server ∷ left) left moment 0 0 _ _ between below_next is_call steps seen.call k b f.fine (λ unit first. refl) (λ unit numbers. omega arith)).has.fine)
+    (λ k b f. (call_comes s3 t (after next) next (step.Reply q) c computers (server ∷ left) left moment 0 0 _ _ alone between below_next is_call steps seen.call k b f.fine (λ unit first. refl) (λ unit numbers. omega arith)).has.fine)
     (λ k b fine. reply_leads s4 t (after next) next q r kept left moment 0 between below_next is_reply (replied_names s t names) seen.reply k b fine
     (λ unit first. ap (λ (taking : Taking). clashes (taking_note (Some taking) t.at_controller channel).checked (Some unit) b.sent) takes))
 
@@ -123,11 +124,11 @@ challenge_trail s t next number client server computers kept left moment seen be
 
 pub opening_trail : (s : State) (t : TurnScene) (next number : ℕ) (client server : List ℕ) (account : Account) (computers kept : Computers) (left : List (List ℕ)) (moment : ℕ) →
     TurnSeen s t t next number (auth_call t.caller client server)
-    (reply.Authenticate (record { credential = server_credential t.caller.secret client server; flags = offered_flags; status = 0 })) computers kept left left moment → IsBetween t → number < 2 ^ 32 → next < 2 ^ 32 →
+    (reply.Authenticate (record { credential = server_credential t.caller.secret client server; flags = offered_flags; status = 0 })) computers kept left left moment → t.trusts ≡ at_no_trusts → IsBetween t → number < 2 ^ 32 → next < 2 ^ 32 →
     Names s t → t.how ≡ standing.Half client server → HasShortCaller t.caller → account_for t.table (auth_value t.caller client server) ≡ Some account → account.hash ≡ t.caller.secret →
     lookup same_name t.caller.computer computers.pending ≡ Some (pair_of client server) →
     Trail s turn_moves (Fine s 0) (Fine (go_through_turn s) 0)
-opening_trail s t next number client server account computers kept left moment seen between below below_next names how caller found hash waits =
+opening_trail s t next number client server account computers kept left moment seen alone between below below_next names how caller found hash waits =
     let c : Call = auth_call t.caller client server in
     let r : Reply = reply.Authenticate (record { credential = server_credential t.caller.secret client server; flags = offered_flags; status = 0 }) in
     let q = question.Authenticate in
@@ -143,7 +144,7 @@ opening_trail s t next number client server account computers kept left moment s
     turns_go_through.takes.reply channel next t.place q r is_reply
     ∙ ap (λ (h : Standing). settle (judge q r h t.caller.secret) (asking_keeping t.caller h t.info t.place (after next) (Some (record { number = next; place = t.place; step = step.Reply q })) (next_of t.plan.secrets))) how
     ∙ logons_are_asked.opened t.caller t.info t.place (after next) next offered_flags client server (next_of t.plan.secrets) refl in
-    turn_trail s t t next number c r computers kept left left moment 0 (Opening named asks.next_call) None (FineAnd s4 0 (Some named)) (Fine (go_through_turn s) 0) seen between below names
+    turn_trail s t t next number c r computers kept left left moment 0 (Opening named asks.next_call) None (FineAnd s4 0 (Some named)) (Fine (go_through_turn s) 0) seen alone between below names
     (ap (λ (h : Standing). asked_note (Some (step.Reply q)) h t.at_controller asks (wait_for asks t.place (step.Reply q))) how)
     (λ k b f.
     let d : Desk = desk_in_turn t computers in
@@ -152,12 +153,12 @@ opening_trail s t next number client server account computers kept left moment s
     let one : (unit : ℕ) → answer_in_turn s3 t next c computers k unit left moment ≡ opening (Some named) (where_in_turn s3 t next c computers k unit) next channel.caller.kind =
     λ unit. channels_are_named_alike.openings.opens channel client server (where_in_turn s3 t next c computers k unit) (turn_line t.link next) d then_so expects in
     let called : Called s3 t next c computers k 0 left moment b =
-    call_comes s3 t (after next) next (step.Reply q) c computers left left moment 0 0 _ _ between below_next is_call steps seen.call k b f.fine
+    call_comes s3 t (after next) next (step.Reply q) c computers left left moment 0 0 _ _ alone between below_next is_call steps seen.call k b f.fine
     (λ unit first. channels_are_named_alike.exchanges.opening channel client server (where_in_turn s3 t next c computers k unit) (turn_line t.link next) d then_so b.sent expects
     (waits_marked s3 (Some named) b unit f.waits first))
     (λ unit numbers. omega (arith, ap (λ (a : Answered). length (judged_of (a ∷ []) numbers)) (one unit))) in
     reply_waits s3 t next c computers k 0 0 left moment b (reply_bytes next r) (Some named) f.fine called (Opened named next called.came.number)
     (ap (λ (a : Answered). answered_marks (a ∷ [])) (one called.came.number)) refl
-    (replied_bag s3 t (after next) next (step.Reply q) c computers left left moment (reply_bytes next r) _ called.came.number between steps seen.call))
+    (replied_bag s3 t (after next) next (step.Reply q) c computers left left moment (reply_bytes next r) _ called.came.number alone between steps seen.call))
     (λ k b f. reply_leads s4 t (after next) next q r kept left moment 0 between below_next is_reply (replied_names s t names) seen.reply k b f.fine
     (λ unit first. channels_are_named_alike.exchanges.opened t.at_controller channel _ client server (Some unit) b.sent how (ap (λ (taking : Taking). taking.taken) takes) (waits_marked s4 (Some named) b unit f.waits first)))

@@ -308,7 +308,7 @@ module _ (plan : Plan) (p : Arrival) (s : State) (k : ℕ) (b : Book) (able : Is
       bound_clear : (aim : Aim) → IsTurningBy plan p a v → Shows s (scene_of p (BindsHeld a who v aim) left moment) → After NotYet
       bound_clear aim is shows = record {
         clean = clean_of (goes s) count now
-            (bind_leads s (t_on aim) v.next v.number (step_for p a aim) v.computers left moment count (between_on aim is) is.number_below shows k b fine);
+            (bind_leads s (t_on aim) v.next v.number (step_for p a aim) v.computers left moment count able.alone (between_on aim is) is.number_below shows k b fine);
         waits = tt;
       }
 
@@ -355,7 +355,7 @@ module _ (plan : Plan) (p : Arrival) (s : State) (k : ℕ) (b : Book) (able : Is
             record {
               clean = clean_of (goes s) count now
                   (call_comes s t (after v.next) v.next (step.Reply (question.Challenge client)) (requester.challenge_call p.meeting.caller client) v.computers (three.one ∷ more) more moment count count _ _
-                  (between_on (First client) is) is.next_below can told.steps
+                  able.alone (between_on (First client) is) is.next_below can told.steps
                   (left_so s (λ (l : List (List ℕ)). scene_of p (Calls a who v (First client)) l moment) left _ shows.left three.are shows) k b fine
                   (λ unit first. refl) (λ unit numbers. omega arith)).has.fine;
               waits = tt;
@@ -383,14 +383,14 @@ module _ (plan : Plan) (p : Arrival) (s : State) (k : ℕ) (b : Book) (able : Is
             let one : (unit : ℕ) → answer_in_turn s t v.next call v.computers k unit left moment ≡ opening (Some named) (where_in_turn s t v.next call v.computers k unit) v.next p.meeting.caller.kind =
             λ unit. channels_are_named_alike.openings.opens channel client server (where_in_turn s t v.next call v.computers k unit) (turn_line t.link v.next) d then_so expects in
             let called : Called s t v.next call v.computers k count left moment b =
-            call_comes s t (after v.next) v.next (step.Reply question.Authenticate) call v.computers left left moment count count _ _ (between_on (Second client server) is) is.next_below can steps shows k b fine
+            call_comes s t (after v.next) v.next (step.Reply question.Authenticate) call v.computers left left moment count count _ _ able.alone (between_on (Second client server) is) is.next_below can steps shows k b fine
             (λ unit first. channels_are_named_alike.exchanges.opening channel client server (where_in_turn s t v.next call v.computers k unit) (turn_line t.link v.next) d then_so b.sent expects
             (waits_marked s (Some named) b unit waits first))
             (λ unit numbers. omega (arith, ap (λ (x : Answered). length (judged_of (x ∷ []) numbers)) (one unit))) in
             let f : FineAnd (goes s) count (Some named) now =
             reply_waits s t v.next call v.computers k count count left moment b (reply_bytes v.next r) (Some named) fine called (Opened named v.next called.came.number)
             (ap (λ (x : Answered). answered_marks (x ∷ [])) (one called.came.number)) refl
-            (replied_bag s t (after v.next) v.next (step.Reply question.Authenticate) call v.computers left left moment (reply_bytes v.next r) _ called.came.number (between_on (Second client server) is) steps shows) in
+            (replied_bag s t (after v.next) v.next (step.Reply question.Authenticate) call v.computers left left moment (reply_bytes v.next r) _ called.came.number able.alone (between_on (Second client server) is) steps shows) in
             record { clean = clean_of (goes s) count now f.fine; waits = inl f.waits }
 
         -- the opening is refused, where there is no account
@@ -407,7 +407,7 @@ module _ (plan : Plan) (p : Arrival) (s : State) (k : ℕ) (b : Book) (able : Is
             (of_table p v (λ (t : AccountTable). account_for t (auth_value p.meeting.caller client server) ≡ None) is_planned none)) in
             record {
               clean = clean_of (goes s) count now
-                  (call_comes s t (after v.next) v.next (step.Reply question.Authenticate) call v.computers left left moment count count _ _ (between_on (Second client server) is) is.next_below can
+                  (call_comes s t (after v.next) v.next (step.Reply question.Authenticate) call v.computers left left moment count count _ _ able.alone (between_on (Second client server) is) is.next_below can
                   told.steps shows k b fine (λ unit first. ap (λ (x : Answered). clashes x.checked (Some unit) b.sent) (one unit))
                   (λ unit numbers. omega (arith, ap (λ (x : Answered). length (judged_of (x ∷ []) numbers)) (one unit)))).has.fine;
               waits = inr none;
@@ -442,14 +442,14 @@ module _ (plan : Plan) (p : Arrival) (s : State) (k : ℕ) (b : Book) (able : Is
             let one : (unit : ℕ) → answer_in_turn s t v.next call v.computers k unit left moment ≡ passing (Some named) (j unit) =
             λ unit. channels_are_named_alike.calls.passes (j unit) v.computers named refl refl refl has passed in
             let called : Called s t v.next call v.computers k (1 + count) left moment b =
-            call_comes s t (after v.next) v.next (step.Reply question.Logon) call v.computers left left moment count (1 + count) _ _ (between_on (Third o c timestamp) is) is.next_below can steps shows k b fine
+            call_comes s t (after v.next) v.next (step.Reply question.Logon) call v.computers left left moment count (1 + count) _ _ able.alone (between_on (Third o c timestamp) is) is.next_below can steps shows k b fine
             (λ unit first. channels_are_named_alike.exchanges.calling (j unit) v.computers named b.sent refl refl refl has passed (waits_marked s (Some named) b unit waits first))
             (λ unit numbers. omega (arith, ap (λ (x : Answered). length (judged_of (x ∷ []) numbers)) (one unit))) in
             let f : FineAnd (goes s) (1 + count) (Some named) now =
             reply_waits s t v.next call v.computers k count (1 + count) left moment b (reply_bytes v.next r) (Some named) fine called (ReplyTo named v.next called.came.number)
             (ap (λ (x : Answered). answered_marks (x ∷ [])) (one called.came.number)) refl
             (judged_bag s t (after v.next) v.next (step.Reply question.Logon) call v.computers left left moment (judged.Passed (status_of found)) (reply_bytes v.next r) _ called.came.number
-            (between_on (Third o c timestamp) is) steps shows) in
+            able.alone (between_on (Third o c timestamp) is) steps shows) in
             record { clean = clean_of (goes s) (1 + count) now f.fine; waits = f.waits }
 
         -- the secret is set
@@ -478,14 +478,14 @@ module _ (plan : Plan) (p : Arrival) (s : State) (k : ℕ) (b : Book) (able : Is
             let one : (unit : ℕ) → answer_to s t v.next (set_request v.next call) heard v.computers k unit left moment ≡ passing (Some named) (j unit) =
             λ unit. channels_are_named_alike.calls.passes (j unit) v.computers named refl refl refl has passed in
             let called : CalledBy s t v.next (set_request v.next call) heard v.computers k (1 + count) left moment b =
-            calls_come s t (after v.next) v.next (step.Set set_step.Reply) (set_request v.next call) heard v.computers left left moment (between_on (Fourth o c timestamp new) is) shows count (1 + count) _ _
+            calls_come s t (after v.next) v.next (step.Set set_step.Reply) (set_request v.next call) heard v.computers left left moment able.alone (between_on (Fourth o c timestamp new) is) shows count (1 + count) _ _
             (set_comes v.next call can) (set_hears t.link v.next call is.next_below can) steps k b fine
             (λ unit first. channels_are_named_alike.exchanges.calling (j unit) v.computers named b.sent refl refl refl has passed (waits_marked s (Some named) b unit waits first))
             (λ unit numbers. omega (arith, ap (λ (x : Answered). length (judged_of (x ∷ []) numbers)) (one unit))) in
             let f : FineAnd (goes s) (1 + count) (Some named) now =
             reply_waits_by s t v.next (set_request v.next call) heard v.computers k count (1 + count) left moment b (set_reply_bytes v.next (set_taken o timestamp)) (Some named) fine called
             (ReplyTo named v.next called.came.number) (ap (λ (x : Answered). answered_marks (x ∷ [])) (one called.came.number)) refl
-            (bag_kept s t (after v.next) v.next (step.Set set_step.Reply) (set_request v.next call) heard v.computers left left moment (between_on (Fourth o c timestamp new) is) shows _ (judged.Passed 0)
+            (bag_kept s t (after v.next) v.next (step.Set set_step.Reply) (set_request v.next call) heard v.computers left left moment able.alone (between_on (Fourth o c timestamp new) is) shows _ (judged.Passed 0)
             (set_reply_bytes v.next (set_taken o timestamp)) _ called.came.number steps) in
             record { clean = clean_of (goes s) (1 + count) now f.fine; waits = f.waits }
 

@@ -31,6 +31,8 @@ use Rattle.domain_controller.specs.Machine.{Desk}
 use Rattle.domain_controller.specs.State.{State as ControllerState}
 use Rattle.domain_controller.specs.Trusting.{no_trusting}
 use Rattle.domain_controller.specs.Step.{first_desk, step_of as controller_step_of}
+use Rattle.domain_controller.specs.TrustStep.{trust_step_of}
+use Rattle.domain_controller.proofs.TrustAloneLaws.{steps_alone}
 use Rattle.controller_calls.specs.declared.calls.ControllerCall.{ControllerCall}
 use Rattle.controller_calls.specs.declared.state.Computers.{Computers}
 use Rattle.secret_change.specs.declared.calls.SetCall.{SetCall}
@@ -56,11 +58,13 @@ use Rattle.world_moves.specs.Links.{OpenMap}
 use Rattle.world_moves.specs.MemberPlans.{but_secret}
 use Rattle.world_moves.specs.Moving.{connect, end_of_peer, settle, start}
 use Rattle.domain_world.specs.Past.{Delivery, any_clash, at_controller, controller_number, controller_of_plan, is_sent_on, judged_of, note, note_at, note_client, note_controller, note_member, numbers_on, onto, controller_asked}
+use Rattle.logon_steps.specs.BesideTrusts.{at_no_trusts}
 use Rattle.logon_steps.specs.ControllerTurns.{controller_at, one_link, turn_link}
 use Rattle.logon_steps.specs.MemberLinks.{one_link as client_link}
 use Rattle.logon_steps.specs.MemberTurns.{logons_keeping, member_at, on_turn}
 use Rattle.logon_steps.specs.SetTurns.{set_request}
 use Rattle.logon_steps.specs.Turning.{IsTurnCall, IsTurnReply, turn_ack, turn_request, turn_response}
+use Rattle.logon_steps.proofs.BesideTrustsLaws.{trusts_stay_beside}
 use Rattle.logon_steps.proofs.ControllerTurnLaws.{controllers_step}
 use Rattle.logon_steps.proofs.MemberTurnLaws.{turns_step}
 use Rattle.logon_steps.proofs.SetTurnLaws.{set_turns_step, set_units_go}
@@ -177,10 +181,10 @@ on_back t bytes = ap₂ (λ (here back : Bool). here && back) (same t.link) (sam
 
 -- ---- the bind
 
-pub bind_leads : (s : State) (t : TurnScene) (next number : ℕ) (what : Step) (computers : Computers) (left : List (List ℕ)) (moment count : ℕ) → IsBetween t → number < 2 ^ 32 →
+pub bind_leads : (s : State) (t : TurnScene) (next number : ℕ) (what : Step) (computers : Computers) (left : List (List ℕ)) (moment count : ℕ) → t.trusts ≡ at_no_trusts → IsBetween t → number < 2 ^ 32 →
     Shows s (turn_scene t next number what computers (one_link t.link first_talk) (unit_there t (written (bind_of netlogon_syntax number)) ∷ []) left moment) →
     Leads s move.Onward (Fine s count) (Fine (goes s) count)
-bind_leads s t next number what computers left moment count between below shows k b fine =
+bind_leads s t next number what computers left moment count alone between below shows k b fine =
     let bytes : List ℕ = written (bind_of netlogon_syntax number) in
     let unit : BagUnit = unit_there t bytes in
     let c : ControllerState = controller_at t.table t.name computers (one_link t.link first_talk) in
@@ -191,7 +195,7 @@ bind_leads s t next number what computers left moment count between below shows 
     ap₂ (λ (now : ℕ) (l : List (List ℕ)). map (answer_on t.link (at_controller t.at_controller c w s)) (units_of_controller c t.link bytes now l)) shows.moment shows.left
     ∙ bind_answers t.table t.name computers t.link moment number (at_controller t.at_controller c w s) left _ below
     (ap (λ (stepped : Stepped ControllerState). stepped.answer) (controllers_step.bound t.table t.name computers t.link moment number left below)) in
-    (controller_comes s unit [] t.at_controller came c shows.controller refl k count count b fine
+    (controller_comes s unit [] t.at_controller came c (shows.controller ∙ ap Some (trusts_stay_beside.stands t.table t.name computers (one_link t.link first_talk) t.trusts alone)) refl k count count b fine
     (ap (λ (all : List Answered). any_clash all (Some came.number) b.sent) answers)
     (λ numbers. omega (arith, ap (λ (all : List Answered). length (judged_of all numbers)) answers))).fine
 
@@ -310,13 +314,17 @@ abbrev pub Called : (s : State) (t : TurnScene) (number : ℕ) (c : Call) (compu
 Called s t number c computers k total left moment b = CalledBy s t number (turn_request number c) (served_call c) computers k total left moment b
 
 -- whichever call it is
-module _ (s : State) (t : TurnScene) (next number : ℕ) (what : Step) (request : RpcUnit) (c : ControllerCall) (computers : Computers) (left rest : List (List ℕ)) (moment : ℕ) (between : IsBetween t)
+module _ (s : State) (t : TurnScene) (next number : ℕ) (what : Step) (request : RpcUnit) (c : ControllerCall) (computers : Computers) (left rest : List (List ℕ)) (moment : ℕ) (alone : t.trusts ≡ at_no_trusts) (between : IsBetween t)
     (shows : Shows s (turn_scene t next number what computers (turn_link t.link) (unit_there t (bytes_of_call request 5840) ∷ []) left moment)) where
   abbrev call_bytes : List ℕ
   call_bytes = bytes_of_call request 5840
 
   abbrev call_at : ControllerState
   call_at = controller_at t.table t.name computers (turn_link t.link)
+
+  -- the controller that asks nobody stands there
+  its_controller : slice_get s.ends.controllers t.at_controller ≡ Some call_at
+  its_controller = shows.controller ∙ ap Some (trusts_stay_beside.stands t.table t.name computers (turn_link t.link) t.trusts alone)
 
   pub calls_come : (count total : ℕ) (actions : List Action) (after : ControllerState) → ComesAtOnce call_bytes → IsHeardAs t.link number request c →
       controller_step_of call_at (event.Bytes t.link call_bytes) moment left ≡ whole_step left rest actions after → (k : ℕ) (b : Book) → Fine s count b →
@@ -338,14 +346,14 @@ module _ (s : State) (t : TurnScene) (next number : ℕ) (what : Step) (request 
       (sym (ap₂ (λ (now : ℕ) (l : List (List ℕ)). map (answer_on t.link (at_controller t.at_controller call_at w s)) (units_of_controller call_at t.link call_bytes now l)) shows.moment shows.left))
       (heard_answers t.name moment t.link number request c (at_controller t.at_controller call_at w s) hears t.table computers left actions
       (ap (λ (stepped : Stepped ControllerState). stepped.answer) steps)) in
-      let has = controller_comes s unit [] t.at_controller came call_at shows.controller refl k count total b fine
+      let has = controller_comes s unit [] t.at_controller came call_at its_controller refl k count total b fine
       (to.clash (Some came.number) b.sent ∙ ap (λ (here : Bool). here || false) (own came.number came.first))
       (λ numbers. omega (arith, judged came.number numbers, ap (λ (all : _). length all) (to.judged numbers))) in
       record {
         came = came;
         has = subst (λ (marks : List Mark). HasWritten s unit [] (Controller t.at_controller) came k t.link true total marks b) to.marks has;
         numbers = numbers;
-        judged = ap (λ (one : Book). one.judged) (came.noted k b ∙ ap (λ (f : Option ControllerState). note_controller f t.at_controller w call_bytes s1 later b) shows.controller
+        judged = ap (λ (one : Book). one.judged) (came.noted k b ∙ ap (λ (f : Option ControllerState). note_controller f t.at_controller w call_bytes s1 later b) its_controller
             ∙ state_noted t.at_controller call_at w call_bytes s1 later b refl)
             ∙ ap (λ (js : List Judging). onto js b.judged) (to.judged numbers);
       }
@@ -356,8 +364,9 @@ module _ (s : State) (t : TurnScene) (next number : ℕ) (what : Step) (request 
       ≡ (done (Controller t.at_controller) (after_hearing (with_controller_at t.at_controller after s.ends) rest actions (settle n s))).state.bag
   call_done actions after n steps =
       ap (λ (h : AfterHearing). (done (Controller t.at_controller) h).state.bag)
-      (waiting_comes.controller (settle n s) t.at_controller call_at after (event.Bytes t.link call_bytes) rest actions shows.controller shows.alone
-      (ap₂ (λ (now : ℕ) (l : List (List ℕ)). controller_step_of call_at (event.Bytes t.link call_bytes) now l) shows.moment shows.left ∙ steps
+      (waiting_comes.controller (settle n s) t.at_controller call_at after (event.Bytes t.link call_bytes) rest actions its_controller refl
+      (ap₂ (λ (now : ℕ) (l : List (List ℕ)). trust_step_of call_at (event.Bytes t.link call_bytes) now l) shows.moment shows.left
+      ∙ steps_alone.step call_at (event.Bytes t.link call_bytes) moment left refl ∙ steps
       ∙ ap (λ (l : List (List ℕ)). whole_step l rest actions after) (sym shows.left)))
 
   route_so : slice_get s.links t.link ≡ Some (ToController t.at_member t.at_controller)
@@ -388,14 +397,14 @@ module _ (s : State) (t : TurnScene) (next number : ℕ) (what : Step) (request 
       ∙ bag_text (Controller t.at_controller) (with_controller_at t.at_controller after s.ends) rest t.link t.at_member t.at_controller text how bytes (settle n s) route_so
 
 pub call_comes : (s : State) (t : TurnScene) (next number : ℕ) (what : Step) (c : Call) (computers : Computers) (left rest : List (List ℕ)) (moment count total : ℕ) (actions : List Action) (after : ControllerState) →
-    IsBetween t → number < 2 ^ 32 → IsTurnCall c →
+    t.trusts ≡ at_no_trusts → IsBetween t → number < 2 ^ 32 → IsTurnCall c →
     controller_step_of (controller_at t.table t.name computers (turn_link t.link)) (event.Bytes t.link (bytes_of_call (turn_request number c) 5840)) moment left ≡ whole_step left rest actions after →
     Shows s (turn_scene t next number what computers (turn_link t.link) (unit_there t (bytes_of_call (turn_request number c) 5840) ∷ []) left moment) → (k : ℕ) (b : Book) → Fine s count b →
     ((unit : ℕ) → first_waiting s.bag ≡ Some unit → clashes (answer_in_turn s t number c computers k unit left moment).checked (Some unit) b.sent ≡ false) →
     ((unit : ℕ) (numbers : List ℕ) → length (judged_of (answer_in_turn s t number c computers k unit left moment ∷ []) numbers) + count ≤ total) →
     Called s t number c computers k total left moment b
-call_comes s t next number what c computers left rest moment count total actions after between below is steps shows k b fine own judged =
-    calls_come s t next number what (turn_request number c) (served_call c) computers left rest moment between shows count total actions after (request_comes number c is) (turn_hears t.link number c below is) steps
+call_comes s t next number what c computers left rest moment count total actions after alone between below is steps shows k b fine own judged =
+    calls_come s t next number what (turn_request number c) (served_call c) computers left rest moment alone between shows count total actions after (request_comes number c is) (turn_hears t.link number c below is) steps
     k b fine own judged
 
 -- the reply waits, with its mark
@@ -426,22 +435,22 @@ reply_waits s t number c computers k count total left moment b bytes channel fin
     reply_waits_by s t number (turn_request number c) (served_call c) computers k count total left moment b bytes channel fine called mark marks made bag
 
 -- the bag then, by what the controller does
-pub replied_bag : (s : State) (t : TurnScene) (next number : ℕ) (what : Step) (c : Call) (computers : Computers) (left rest : List (List ℕ)) (moment : ℕ) (bytes : List ℕ) (after : ControllerState) (n : ℕ) → IsBetween t →
+pub replied_bag : (s : State) (t : TurnScene) (next number : ℕ) (what : Step) (c : Call) (computers : Computers) (left rest : List (List ℕ)) (moment : ℕ) (bytes : List ℕ) (after : ControllerState) (n : ℕ) → t.trusts ≡ at_no_trusts → IsBetween t →
     controller_step_of (controller_at t.table t.name computers (turn_link t.link)) (event.Bytes t.link (bytes_of_call (turn_request number c) 5840)) moment left ≡ whole_step left rest (action.Send t.link bytes ∷ []) after →
     Shows s (turn_scene t next number what computers (turn_link t.link) (unit_there t (bytes_of_call (turn_request number c) 5840) ∷ []) left moment) →
     (state_then (Controller t.at_controller) (unit_there t (bytes_of_call (turn_request number c) 5840)) n s).bag
     ≡ (settle n s).bag ++ unit_on (ToController t.at_member t.at_controller) (Controller t.at_controller) t.link bytes ∷ []
-replied_bag s t next number what c computers left rest moment bytes after n between steps shows =
-    bag_replied s t next number what (turn_request number c) (served_call c) computers left rest moment between shows bytes after n steps
+replied_bag s t next number what c computers left rest moment bytes after n alone between steps shows =
+    bag_replied s t next number what (turn_request number c) (served_call c) computers left rest moment alone between shows bytes after n steps
 
-pub judged_bag : (s : State) (t : TurnScene) (next number : ℕ) (what : Step) (c : Call) (computers : Computers) (left rest : List (List ℕ)) (moment : ℕ) (how : Judged) (bytes : List ℕ) (after : ControllerState) (n : ℕ) → IsBetween t →
+pub judged_bag : (s : State) (t : TurnScene) (next number : ℕ) (what : Step) (c : Call) (computers : Computers) (left rest : List (List ℕ)) (moment : ℕ) (how : Judged) (bytes : List ℕ) (after : ControllerState) (n : ℕ) → t.trusts ≡ at_no_trusts → IsBetween t →
     controller_step_of (controller_at t.table t.name computers (turn_link t.link)) (event.Bytes t.link (bytes_of_call (turn_request number c) 5840)) moment left
     ≡ whole_step left rest (action.Judged how ∷ action.Send t.link bytes ∷ []) after →
     Shows s (turn_scene t next number what computers (turn_link t.link) (unit_there t (bytes_of_call (turn_request number c) 5840) ∷ []) left moment) →
     (state_then (Controller t.at_controller) (unit_there t (bytes_of_call (turn_request number c) 5840)) n s).bag
     ≡ (settle n s).bag ++ unit_on (ToController t.at_member t.at_controller) (Controller t.at_controller) t.link bytes ∷ []
-judged_bag s t next number what c computers left rest moment how bytes after n between steps shows =
-    bag_told s t next number what (turn_request number c) (served_call c) computers left rest moment between shows how bytes after n steps
+judged_bag s t next number what c computers left rest moment how bytes after n alone between steps shows =
+    bag_told s t next number what (turn_request number c) (served_call c) computers left rest moment alone between shows how bytes after n steps
 
 -- ---- the reply
 

@@ -1,7 +1,7 @@
 -- What is written down where the controller grants a logon: a call that passed with status 0, by the user's hash and on
 -- the member's channel.
 -- It serves `Proved.complete`.
-use Rattle.std.proofs.Common.{◌≡◌, ℕ, true, refl, sym, ap, ap₂, subst, ◌∙◌, List, [], ◌∷◌, ◌++◌, length, map, replicate, Option, Some, None, inl}
+use Rattle.std.proofs.Common.{◌≡◌, ℕ, true, slice_get, refl, sym, ap, ap₂, subst, ◌∙◌, List, [], ◌∷◌, ◌++◌, length, map, replicate, Option, Some, None, inl}
 use Rattle.std.specs.Prelude.{IsSomeAnd}
 use Rattle.rc4_stream.specs.Rc4.{applied}
 use Rattle.authenticators.specs.Channels.{ChannelIdentity}
@@ -49,6 +49,7 @@ use Rattle.logon_steps.specs.Turning.{IsTurnCall, turn_agreed, turn_request}
 use Rattle.logon_steps.proofs.AnsweringLaws.{calls_are_answered}
 use Rattle.logon_steps.proofs.AnswersLaws.{answers_are_asked}
 use Rattle.logon_steps.proofs.CallingLaws.{calls_can_go}
+use Rattle.logon_steps.proofs.BesideTrustsLaws.{trusts_stay_beside}
 use Rattle.logon_steps.proofs.ControllerTurnLaws.{controllers_step}
 use Rattle.logon_steps.proofs.GrantingLaws.{logons_are_granted}
 use Rattle.logon_steps.proofs.TurningLaws.{request_comes}
@@ -170,8 +171,10 @@ grant_noted p w b a who v o c timestamp left moment known user may_log fits show
     let unit : BagUnit = unit_there t bytes in
     let at : ℕ = p.meeting.at_controller in
     let there : ControllerState = controller_at v.table p.name v.computers (turn_link (length v.links)) in
+    let is_there : slice_get s.ends.controllers at ≡ Some there =
+    shows.controller ∙ ap Some (trusts_stay_beside.stands v.table p.name v.computers (turn_link (length v.links)) p.meeting.trusts known.alone) in
     let may_then : MayLogOn v.table (info_told p.meeting.task) s.moment =
-    subst (λ (found : Option ControllerState). IsSomeAnd found (λ (k : ControllerState). MayLogOn k.table (info_told p.meeting.task) s.moment)) shows.controller may_log in
+    subst (λ (found : Option ControllerState). IsSomeAnd found (λ (k : ControllerState). MayLogOn k.table (info_told p.meeting.task) s.moment)) is_there may_log in
     let may : MayLogOn v.table (info_told p.meeting.task) moment = subst (λ (now : ℕ). MayLogOn v.table (info_told p.meeting.task) now) shows.moment may_then in
     let can : IsTurnCall call = calls_can_go.logon p.meeting.caller o timestamp (info_asked (own p) a) known.caller fits.1.0 fits.0.answering.info in
     let between : IsBetween t = turns_have_links.between (own p) (turn_before p a who.later (who.sent ∷ []) v) (standing_for (Third o c timestamp)) fits.0.joined_so in
@@ -191,7 +194,7 @@ grant_noted p w b a who v o c timestamp left moment known user may_log fits show
     (controllers_step.judged v.table p.name v.computers (length v.links) moment v.next timestamp p.meeting.caller o c (info_asked (own p) a) left fits.0.next_below can fits.1.1 fits.1.2))) in
     let numbers : List ℕ = numbers_on unit.link true s1.bag later.bag in
     subst (λ (now : Book). OneOf (IsGrant p (key_of_channel o) (base_key p.meeting.task (message_for (own p) a))) now.judged)
-    (sym (came.noted w.moves b ∙ ap (λ (found : Option ControllerState). note_controller found at by bytes s1 later b) shows.controller
+    (sym (came.noted w.moves b ∙ ap (λ (found : Option ControllerState). note_controller found at by bytes s1 later b) is_there
     ∙ state_noted at there by bytes s1 later b refl))
     (subst (λ (js : List Judging). OneOf (IsGrant p (key_of_channel o) (base_key p.meeting.task (message_for (own p) a))) (onto js b.judged)) (sym (to.judged numbers))
     (newest (IsGrant p (key_of_channel o) (base_key p.meeting.task (message_for (own p) a))) one _ numbers b.judged (judging_so p a v o c timestamp moment left known user fits.0 fits.1 may where_so)

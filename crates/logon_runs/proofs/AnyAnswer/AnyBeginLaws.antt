@@ -137,6 +137,7 @@ module _ (plan : Plan) (s : State) (rest : AtRest plan s) (client member control
         stands = may_stand mr.how mr.stands;
         knows = λ one other now found. known_found desk.table work one other now found;
         own_secret = λ none is_own one other now found. fits_now plan s rest client member controller three account machine (named_so is_own) now found ∙ tried_now none;
+        alone = refl;
       }
 
   -- nothing is open and nothing waits, and the three ends rest
@@ -145,7 +146,7 @@ module _ (plan : Plan) (s : State) (rest : AtRest plan s) (client member control
     client = (rest.clients client three.task three.is_task).rests;
     member = (rest.members member work three.is_member_plan).rests;
     controller = desk.rests;
-    alone = refl;
+    unsealed = refl;
     plain = refl;
     links = refl;
     opened = rest.opened;

@@ -51,9 +51,11 @@ use Rattle.logon_steps.specs.Answering.{auth_value, moved, pair_of}
 use Rattle.logon_steps.specs.ControllerTurns.{controller_at, reply_bytes, turn_link}
 use Rattle.logon_steps.specs.MemoCalls.{with_session}
 use Rattle.logon_steps.specs.SetTurns.{IsSetTurn, set_reply_bytes}
+use Rattle.logon_steps.specs.BesideTrusts.{AtTrusts}
 use Rattle.logon_steps.specs.Turning.{IsTurnCall, IsTurnReply}
 use Rattle.logon_steps.proofs.AnsweringLaws.{calls_are_answered}
 use Rattle.logon_steps.proofs.CallingLaws.{calls_can_go}
+use Rattle.logon_steps.proofs.BesideTrustsLaws.{trusts_stay_beside}
 use Rattle.logon_steps.proofs.ControllerTurnLaws.{controllers_step}
 use Rattle.logon_steps.proofs.SetTurnLaws.{controllers_set, set_units_go}
 use Rattle.logon_runs.specs.Failing.FailingSteps.{out_talk, who_fault}
@@ -62,6 +64,7 @@ use Rattle.logon_runs.specs.Phases.{Acked, Aim, BindsBefore, BindsHeld, Calls, A
 use Rattle.logon_runs.specs.Runs.{ClientAnswer, info_asked, message_for}
 use Rattle.logon_runs.specs.Scenes.Scene.{Shows}
 use Rattle.logon_runs.specs.Failing.TurnedAway.{away_scene, AwayPhase, Faulted, Refused, Settled, settled_in, Unheard}
+use Rattle.logon_runs.specs.Scenes.AskScenes.{kept_by}
 use Rattle.logon_runs.specs.Scenes.TurnScenes.{IsBetween, TurnScene, dial_scene, turn_scene, unit_back, with_accounts}
 use Rattle.logon_runs.specs.AnyAnswer.AnyPhases.{Away, HasMachine, IsAble, IsLeft, GoesTo, IsOwn, IsReadyBy, IsSetRightly, IsThere, IsTurningBy, Judged, KeepsInStep, MayAim, MayFitAway, MaySet, MayStand, On, Setting, Told, proof_reply}
 use Rattle.logon_runs.specs.AnyAnswer.ControllerAnswers.{FindsAccount, ToldChallenge, ToldLogon, ToldProof}
@@ -223,7 +226,8 @@ module _ (plan : Plan) (p : Arrival) (s : State) where
         )
         (turns_are_seen.answers s (turn_on p a who.later (who.sent ∷ []) v (First client)) (after v.next) v.next (step.Reply (question.Challenge client)) (challenge_call p.meeting.caller client)
         (reply.Challenge (record { challenge = three.one; status = 0 })) v.computers told.later (three.one ∷ more) more moment
-        (between a who v (First client) left moment turning aimed) can told.steps
+        (between a who v (First client) left moment turning aimed) can
+        (trusts_stay_beside.called (kept_by (own p) v.table p.name v.computers) (length v.links) moment v.next (challenge_call p.meeting.caller client) (three.one ∷ more) more _ _ _ p.meeting.trusts.nobody turning.next_below can tt told.steps)
         (left_so s (λ (l : List (List ℕ)). scene_of p (Calls a who v (First client)) l moment) left _ shows.left three.are shows))
 
     -- where no such account has the member's secret, the proof is answered somehow
@@ -247,7 +251,8 @@ module _ (plan : Plan) (p : Arrival) (s : State) where
         )
         (turns_are_seen.answers s (turn_on p a who.later (who.sent ∷ []) v (Second client server)) (after v.next) v.next (step.Reply question.Authenticate) (auth_call p.meeting.caller client server)
         (proof_reply told.credential told.status) v.computers told.later left left moment
-        (between a who v (Second client server) left moment turning aimed) can told.steps shows)
+        (between a who v (Second client server) left moment turning aimed) can
+        (trusts_stay_beside.called (kept_by (own p) v.table p.name v.computers) (length v.links) moment v.next (auth_call p.meeting.caller client server) left left _ _ _ p.meeting.trusts.nobody turning.next_below can tt told.steps) shows)
 
     -- where one has, it is taken
     second_right : (client server : List ℕ) (machine : Account) → account_for p.table (auth_value p.meeting.caller client server) ≡ Some machine → machine.hash ≡ p.meeting.caller.secret →
@@ -281,8 +286,9 @@ module _ (plan : Plan) (p : Arrival) (s : State) where
         (turns_are_seen.answers s (turn_on p a who.later (who.sent ∷ []) v (Second client server)) (after v.next) v.next (step.Reply question.Authenticate) (auth_call p.meeting.caller client server)
         (proof_reply (server_credential p.meeting.caller.secret client server) 0) v.computers later left left moment
         (between a who v (Second client server) left moment turning aimed) can
+        (trusts_stay_beside.called (kept_by (own p) v.table p.name v.computers) (length v.links) moment v.next (auth_call p.meeting.caller client server) left left _ _ _ p.meeting.trusts.nobody turning.next_below can tt
         (controllers_step.proved v.table p.name v.computers (length v.links) moment v.next p.meeting.caller client server machine left turning.next_below can
-        (of_table p v (λ (t : AccountTable). account_for t (auth_value p.meeting.caller client server) ≡ Some machine) aimed.2 found) secret (aimed.0 (able.knows client server machine found)))
+        (of_table p v (λ (t : AccountTable). account_for t (auth_value p.meeting.caller client server) ≡ Some machine) aimed.2 found) secret (aimed.0 (able.knows client server machine found))))
         shows)
 
     second_by : (client server : List ℕ) (found : Option Account) → account_for p.table (auth_value p.meeting.caller client server) ≡ found → MayAim plan p v (Second client server) →
@@ -320,7 +326,10 @@ module _ (plan : Plan) (p : Arrival) (s : State) where
         })
         (turns_are_seen.judges s (turn_on p a who.later (who.sent ∷ []) v (Third o c timestamp)) (after v.next) v.next (step.Reply question.Logon) (logon_call p.meeting.caller o timestamp (info_asked (own p) a))
         told.answer told.how v.computers told.later told.accounts left left moment
-        (between a who v (Third o c timestamp) left moment turning aimed) can told.steps shows)
+        (between a who v (Third o c timestamp) left moment turning aimed) can
+        (trusts_stay_beside.called (kept_by (own p) v.table p.name v.computers) (length v.links) moment v.next (logon_call p.meeting.caller o timestamp (info_asked (own p) a)) left left _ _ _ p.meeting.trusts.nobody turning.next_below can
+        (trusts_stay_beside.alone (kept_by (own p) v.table p.name v.computers) (logon_call p.meeting.caller o timestamp (info_asked (own p) a)) (ap (λ (trusts : AtTrusts). trusts.requesters) able.alone))
+        told.steps) shows)
 
     -- where both ends are in step, the secret is set
     set_kept : (o : SecureChannelState) (timestamp : ℕ) (new : List ℕ) (told : ToldSet v.table p.name v.computers (length v.links) moment v.next timestamp p.meeting.caller o new left) →
@@ -376,10 +385,10 @@ module _ (plan : Plan) (p : Arrival) (s : State) where
         (elim told.keeps [
           | inl none ↦
               sets_are_seen.refuses s t (after v.next) v.next (step.Set set_step.Reply) call told.answer told.how v.computers told.later told.accounts left left moment within can
-              (told.steps ∙ ap acts none) shows
+              (trusts_stay_beside.set (kept_by (own p) v.table p.name v.computers) (length v.links) moment v.next call left left _ _ _ p.meeting.trusts.nobody turning.next_below can (told.steps ∙ ap acts none)) shows
           | inr text ↦
               sets_are_seen.sets s t (after v.next) v.next (step.Set set_step.Reply) call told.answer told.how text.0 v.computers told.later told.accounts left left moment within can
-              (told.steps ∙ ap acts text.1) shows
+              (trusts_stay_beside.set (kept_by (own p) v.table p.name v.computers) (length v.links) moment v.next call left left _ _ _ p.meeting.trusts.nobody turning.next_below can (told.steps ∙ ap acts text.1)) shows
         ])
 
   pub any_calls : (a : ClientAnswer) (who : WhoAsked p a) (v : TurnAt) (aim : Aim) (left : List (List ℕ)) (moment : ℕ) → IsAble plan p → IsReadyBy plan p s → IsTurningBy plan p a v → MayAim plan p v aim →

@@ -17,7 +17,6 @@ use Rattle.channel_client.specs.declared.state.SetStep.TheVariants as set_step
 use Rattle.channel_client.specs.declared.state.Standing.TheVariants as standing
 use Rattle.channel_client.specs.declared.state.Step.TheVariants as step
 use Rattle.domain_controller.specs.State.{State as ControllerState}
-use Rattle.domain_controller.specs.Trusting.{no_trusting}
 use Rattle.domain_controller.proofs.TurnOutLaws.{got_set}
 use Rattle.member_server.specs.Secrets.{is_denied, secrets_dropped}
 use Rattle.logon_steps.proofs.SetTurnLaws.{set_reply_comes}
@@ -43,13 +42,14 @@ use Rattle.logon_steps.specs.Answers.{logon_for}
 use Rattle.logon_steps.specs.ClientSteps.{client_ended}
 use Rattle.logon_steps.specs.ControllerTurns.{reply_bytes, turn_link}
 use Rattle.logon_steps.proofs.ClientStepLaws.{clients_step}
-use Rattle.logon_steps.proofs.ControllerTurnLaws.{controllers_step}
+use Rattle.logon_steps.proofs.BesideTrustsLaws.{trusts_stay_beside}
 use Rattle.logon_steps.proofs.MemberLinkLaws.{links_step}
 use Rattle.logon_steps.proofs.TurningLaws.{response_comes, unit_comes}
 use Rattle.logon_runs.specs.Failing.FailingSteps.{out_talk, who_fault}
 use Rattle.logon_runs.specs.Failing.Failings.{failing_turn, FailingsAreSeen, settled_at, settled_with}
 use Rattle.logon_runs.specs.Scenes.LinkScenes.{given_caller, Meeting, meeting_scene, rest_scene, unit_down, unit_up}
 use Rattle.logon_runs.specs.Scenes.Scene.{IsNoClose, Scene, Shows, dials_made, units_sent, with_actions}
+use Rattle.logon_runs.specs.Scenes.AskScenes.{kept_by}
 use Rattle.logon_runs.specs.Scenes.TurnScenes.{TurnScene, unit_back}
 use Rattle.logon_runs.specs.Scenes.WaitingUnits.{after_hearing, with_client_at, with_member_at}
 use Rattle.logon_runs.proofs.Failing.FailingStepLaws.{failings_step, fault_sends}
@@ -66,9 +66,9 @@ lands_failed : (s : State) (v : Scene) (end : EndId) (peer : List ℕ) (dials : 
     route_to end (end_of_peer peer s.ends) ≡ None → AllByRecursion IsNoClose actions →
     hear end event.DialFailed (without_first s) ≡ after_hearing ends v.left actions (without_first s) →
     slice_get ends.clients v.at_client ≡ Some client → slice_get ends.members v.at_member ≡ Some member → slice_get ends.controllers v.at_controller ≡ Some controller →
-    controller.trusting ≡ no_trusting → SealsNothing member →
+    controller.trusting.sealing ≡ None → SealsNothing member →
     Shows (connect s).state (with_actions end actions v.left (record v { client = client; member = member; controller = controller; dials = dials }))
-lands_failed s v end peer dials ends actions client member controller shows waits reaches none_close heard is_client is_member is_controller alone plain =
+lands_failed s v end peer dials ends actions client member controller shows waits reaches none_close heard is_client is_member is_controller unsealed plain =
     let s1 : State = without_first s in
     let s2 : State = (after_hearing ends v.left actions s1).state in
     let s3 : State = perform_all_quietly end actions s2 in
@@ -82,7 +82,7 @@ lands_failed s v end peer dials ends actions client member controller shows wait
       client = ap (λ (e : EndStates). slice_get e.clients v.at_client) leaves.ends ∙ is_client;
       member = ap (λ (e : EndStates). slice_get e.members v.at_member) leaves.ends ∙ is_member;
       controller = ap (λ (e : EndStates). slice_get e.controllers v.at_controller) leaves.ends ∙ is_controller;
-      alone = alone;
+      unsealed = unsealed;
       plain = plain;
       links = leaves.links ∙ shows.links;
       opened = leaves.opened ∙ shows.opened;
@@ -101,7 +101,7 @@ client_fails s v peer dials after actions shows waits reaches none_close step =
     (waiting_comes.client (without_first s) v.at_client v.client after event.DialFailed v.left actions shows.client
     (ap₂ (λ (now : ℕ) (l : List (List ℕ)). client_step_of v.client event.DialFailed now l) shows.moment shows.left ∙ step
     ∙ ap (λ (l : List (List ℕ)). whole_step l v.left actions after) (sym shows.left)))
-    (got_set s.ends.clients v.at_client v.client after shows.client) shows.member shows.controller shows.alone shows.plain
+    (got_set s.ends.clients v.at_client v.client after shows.client) shows.member shows.controller shows.unsealed shows.plain
 
 member_fails : (s : State) (v : Scene) (peer : List ℕ) (dials : List WaitingDial) (after : MemberState) (actions : List Action) → Shows s v →
     v.dials ≡ record { end = Member v.at_member; peer = peer } ∷ dials → route_to (Member v.at_member) (end_of_peer peer s.ends) ≡ None → AllByRecursion IsNoClose actions →
@@ -112,7 +112,7 @@ member_fails s v peer dials after actions shows waits reaches none_close step =
     (waiting_comes.member (without_first s) v.at_member v.member after event.DialFailed v.left actions shows.member shows.plain
     (ap₂ (λ (now : ℕ) (l : List (List ℕ)). member_step_of v.member event.DialFailed now l) shows.moment shows.left ∙ step
     ∙ ap (λ (l : List (List ℕ)). whole_step l v.left actions after) (sym shows.left)))
-    shows.client (got_set s.ends.members v.at_member v.member after shows.member) shows.controller shows.alone
+    shows.client (got_set s.ends.members v.at_member v.member after shows.member) shows.controller shows.unsealed
     (plain_after v.member after event.DialFailed v.moment v.left v.left actions shows.plain step)
 
 pub failings_are_seen : FailingsAreSeen
@@ -141,7 +141,7 @@ failings_are_seen = record {
       (heard_back t (reply_bytes number r) next number (step.Reply q) computers (turn_link link) left moment between (response_comes number q r is))
       (closes_turn t next number (step.Reply q) computers (unit_back t (reply_bytes number r) ∷ []) left moment between) (tt, (tt, tt))
       (failings_step.drops g.plan g.caller how info g.place next number link moment most q r cause (logon_for g.link g.task challenge message) g.task one other left below is judged who)
-      (controllers_step.closed table name computers link moment _ left)));
+      (trusts_stay_beside.closed (kept_by g table name computers) link moment _ left g.trusts.nobody)));
   set_dropped = λ s g waits info challenge message table name how links opened link next number most r cause computers one other left moment who below between is judged joined taken shows.
       let t : TurnScene = failing_turn g waits info challenge message (who.sent ∷ []) table name how links opened link in
       let g1 : Meeting = settled_with (secrets_dropped (is_denied cause) g.plan.secrets) (settled_at g table name computers standing.Nothing next links) in
@@ -154,7 +154,7 @@ failings_are_seen = record {
       (heard_back t (set_reply_bytes number r) next number (step.Set set_step.Reply) computers (turn_link link) left moment between (set_reply_comes number r is))
       (closes_turn t next number (step.Set set_step.Reply) computers (unit_back t (set_reply_bytes number r) ∷ []) left moment between) (tt, (tt, tt))
       (failings_step.set_drops g.plan g.caller how info g.place next number link moment most r cause (logon_for g.link g.task challenge message) g.task one other left below is judged who)
-      (controllers_step.closed table name computers link moment _ left)));
+      (trusts_stay_beside.closed (kept_by g table name computers) link moment _ left g.trusts.nobody)));
   refused = λ s g waits info challenge message table name how o links opened link next number most status q r computers one other left moment who below between is judged joined taken shows.
       let t : TurnScene = failing_turn g waits info challenge message (who.sent ∷ []) table name how links opened link in
       let g1 : Meeting = settled_at g table name computers (standing.Open o) next links in
@@ -167,7 +167,7 @@ failings_are_seen = record {
       (heard_back t (reply_bytes number r) next number (step.Reply q) computers (turn_link link) left moment between (response_comes number q r is))
       (closes_turn t next number (step.Reply q) computers (unit_back t (reply_bytes number r) ∷ []) left moment between) (tt, (tt, tt))
       (failings_step.refuses g.plan g.caller how o info g.place next number link moment most status q r (logon_for g.link g.task challenge message) g.task one other left below is judged who)
-      (controllers_step.closed table name computers link moment _ left)));
+      (trusts_stay_beside.closed (kept_by g table name computers) link moment _ left g.trusts.nobody)));
   faults = λ s g waits status most one other left moment joined who shows.
       subst (λ (units : List BagUnit). Shows (onward s).state (meeting_scene g waits (out_talk g.task status) (units ++ []) left moment)) (sent_down g (who_fault status) joined)
       (scenes_go_on.to_member s _ (unit_up g who.sent) [] _ left (action.Send g.link (who_fault status) ∷ []) shows

@@ -50,10 +50,12 @@ use Rattle.world_moves.specs.Moving.{act, connect, end_of_peer, moment_after, on
 use Rattle.logon_steps.specs.Answering.{moved}
 use Rattle.logon_steps.specs.ClientSteps.{client_ended}
 use Rattle.logon_steps.specs.ControllerTurns.{controller_at, passed_reply, reply_bytes, turn_link}
+use Rattle.logon_steps.specs.BesideTrusts.{AtTrusts}
 use Rattle.logon_steps.specs.Turning.{IsTurnCall, IsTurnReply}
 use Rattle.logon_steps.proofs.AnsweringLaws.{calls_are_answered}
 use Rattle.logon_steps.proofs.AskingLaws.{same_bytes}
 use Rattle.logon_steps.proofs.CallingLaws.{calls_can_go}
+use Rattle.logon_steps.proofs.BesideTrustsLaws.{trusts_stay_beside}
 use Rattle.logon_steps.proofs.ControllerTurnLaws.{controllers_step}
 use Rattle.logon_steps.proofs.KnowingLaws.{computers_are_known}
 use Rattle.logon_runs.specs.Scenes.LinkScenes.{rest_scene}
@@ -62,6 +64,7 @@ use Rattle.logon_client.specs.declared.outcome.ClientOutcome.TheVariants.{In}
 use Rattle.logon_runs.specs.Phases.{key_at, told_of, Aim, Calls, Arrival, DialsBefore, DialsHeld, Fits, IsKnown, IsTurning, Third, TurnAt, WhoAsked, own, own_keeping, scene_of, standing_for, step_for, turn_before, turn_on, waits_for}
 use Rattle.logon_runs.specs.Runs.{ClientAnswer, info_asked, message_for, with_moved}
 use Rattle.logon_runs.specs.Scenes.Scene.{Shows}
+use Rattle.logon_runs.specs.Scenes.AskScenes.{kept_by}
 use Rattle.logon_runs.specs.Scenes.TurnScenes.{TurnScene}
 use Rattle.logon_runs.specs.Failing.TurnedAway.{AwayPhase, Faulted, FitsAway, IsAway, IsRefusal, IsSettled, HasEnded, LogonsAreTurnedAway, Refused, Settled, Unheard, away_scene, refusing, settled_in}
 use Rattle.logon_runs.specs.Scenes.WaitingUnits.{waiting}
@@ -203,10 +206,13 @@ refuses_so p s a who v o c timestamp left moment status known fits is shows =
       shows = turns_are_seen.judges s out (after v.next) v.next (step.Reply question.Logon) (logon_call p.meeting.caller o timestamp (info_asked (own p) a)) (refusing o timestamp status) (judged.Passed status) v.computers
           later accounts left left moment
           (turns_have_links.between (own p) (turn_before p a who.later (who.sent ∷ []) v) (standing_for (Third o c timestamp)) fits.0.joined_so) can
+          (trusts_stay_beside.called (kept_by (own p) v.table p.name v.computers) link moment v.next (logon_call p.meeting.caller o timestamp (info_asked (own p) a)) left left _ _ _
+          p.meeting.trusts.nobody fits.0.next_below can
+          (trusts_stay_beside.alone (kept_by (own p) v.table p.name v.computers) (logon_call p.meeting.caller o timestamp (info_asked (own p) a)) (ap (λ (trusts : AtTrusts). trusts.requesters) known.alone))
           (controllers_step.judged v.table p.name v.computers link moment v.next timestamp p.meeting.caller o c (info_asked (own p) a) left fits.0.next_below can fits.1.1 fits.1.2
           ∙ ap (λ (found : Verdict). whole_step left left
           (action.Judged (judged.Passed (status_of found)) ∷ action.Send link (reply_bytes v.next (passed_reply (key_of_channel o) (return_of (key_of_channel o) o.seed timestamp) found)) ∷ [])
-          (controller_at accounts p.name later (turn_link link))) is) shows;
+          (controller_at accounts p.name later (turn_link link))) is)) shows;
     }
 
 -- ---- a dial that reaches no controller

@@ -1,6 +1,6 @@
 -- What is seen at each move of the three turns of a member that has no channel yet.
 -- Of `first_turns_are_seen`.
-use Rattle.std.proofs.Common.{ℕ, ◌<◌, ◌^◌, List, [], ◌∷◌, refl, subst, arith}
+use Rattle.std.proofs.Common.{ℕ, ◌<◌, ◌^◌, List, [], ◌∷◌, refl, ap, subst, arith}
 use Rattle.wire_base.specs.Names.{same_name}
 use Rattle.wire_base.proofs.MapLaws.{lookup-put_same}
 use Rattle.authenticators.specs.SecureChannels.{SecureChannelState, after_call}
@@ -24,15 +24,17 @@ use Rattle.world_moves.specs.declared.links.EndId.{EndId}
 use Rattle.world_moves.specs.declared.links.EndId.TheVariants.{Controller}
 use Rattle.logon_steps.specs.Granting.{cleared}
 use Rattle.logon_steps.specs.Answering.{pair_of}
+use Rattle.logon_steps.specs.BesideTrusts.{AtTrusts}
 use Rattle.logon_steps.specs.Answers.{logon_for}
 use Rattle.logon_steps.specs.Meeting.{bound_for, flags_agreed}
 use Rattle.logon_steps.specs.MemberAnswers.{granting}
 use Rattle.logon_steps.specs.MemberLinks.{asked_talk}
 use Rattle.logon_steps.proofs.AnsweringLaws.{calls_are_answered}
 use Rattle.logon_steps.proofs.CallingLaws.{calls_can_go}
+use Rattle.logon_steps.proofs.BesideTrustsLaws.{trusts_stay_beside}
 use Rattle.logon_steps.proofs.ControllerTurnLaws.{controllers_step}
 use Rattle.logon_runs.specs.Scenes.AskScenes.{turn_of, with_talk}
-use Rattle.logon_runs.specs.Scenes.TurnScenes.{TurnScene, dial_scene, next_turn}
+use Rattle.logon_runs.specs.Scenes.TurnScenes.{TurnScene, dial_scene, kept_in, next_turn}
 use Rattle.logon_runs.specs.Scenes.TwoLinks.{HasMet}
 use Rattle.logon_runs.specs.FirstLogon.FirstTraces.{FirstTurnsAreSeen}
 use Rattle.logon_runs.specs.Scenes.LinkScenes.{its_link, unit_up}
@@ -95,9 +97,11 @@ first_turns_are_seen = record {
       let between1 = turns_have_links.between g held standing.Nothing is.joined in
       let between2 = turns_have_links.between g t1 half met1 in
       let between3 = turns_have_links.between g t2 how met2 in
-      let answered = grants_so g a o c table name account opened t3.link n5 moment left (after_below n4) is.caller is.info
+      let answered = trusts_stay_beside.called (kept_in t3 opened) t3.link moment n5 third left left _ _ _ g.trusts.nobody (after_below n4) can_third
+      (trusts_stay_beside.alone (kept_in t3 opened) third (ap (λ (trusts : AtTrusts). trusts.requesters) is.alone))
+      (grants_so g a o c table name account opened t3.link n5 moment left (after_below n4) is.caller is.info
       (lookup-put_same same_name g.caller.computer c paired.channels (same_computer g.caller.computer))
-      (calls_are_answered.in_step g.caller client server machine is.secret) is.can is.units is.draws is.found is.hash is.may in
+      (calls_are_answered.in_step g.caller client server machine is.secret) is.can is.units is.draws is.found is.hash is.may) in
       let accounts : AccountTable = cleared table g.task.user in
       let s2 : State = goes (goes s) in
       let s3 : State = go_through_turn s2 in
@@ -118,7 +122,8 @@ first_turns_are_seen = record {
       let call1 = turns_are_seen.asks _ t1 n1 g.number first computers (server ∷ left) moment between1 is.number ack1 in
       let reply1 =
       turns_are_seen.answers _ t1 n2 n1 (step.Reply (question.Challenge client)) first first_reply computers paired (server ∷ left) left moment between1 can_first
-      (controllers_step.challenged table name computers t1.link moment n1 g.caller client server left (after_below g.number) can_first is.knows) call1 in
+      (trusts_stay_beside.called (kept_in t1 computers) t1.link moment n1 first (server ∷ left) left _ _ _ g.trusts.nobody (after_below g.number) can_first tt
+      (controllers_step.challenged table name computers t1.link moment n1 g.caller client server left (after_below g.number) can_first is.knows)) call1 in
       let dial2 : Shows s3 (dial_scene t1 (its_link g) half n3 n2 second paired [] left moment) =
       subst (λ (map : OpenMap). Shows s3 (dial_scene t1 map half n3 n2 second paired [] left moment)) (turns_have_links.taken g held standing.Nothing is.joined)
       (turns_are_seen.half _ t1 n2 n1 client server paired left moment between1 (after_below g.number) refl (calls_can_go.challenged client server is.server_block) reply1) in
@@ -129,8 +134,9 @@ first_turns_are_seen = record {
       let call2 = turns_are_seen.asks _ t2 n3 n2 second paired left moment between2 (after_below n1) ack2 in
       let reply2 =
       turns_are_seen.answers _ t2 n4 n3 (step.Reply question.Authenticate) second second_reply paired opened left left moment between2 can_second
+      (trusts_stay_beside.called (kept_in t2 paired) t2.link moment n3 second left left _ _ _ g.trusts.nobody (after_below n2) can_second tt
       (controllers_step.proved table name paired t2.link moment n3 g.caller client server machine left (after_below n2) can_second is.machine_found is.secret
-      (lookup-put_same same_name g.caller.computer (pair_of client server) computers.pending (same_computer g.caller.computer))) call2 in
+      (lookup-put_same same_name g.caller.computer (pair_of client server) computers.pending (same_computer g.caller.computer)))) call2 in
       let dial3 : Shows s4 (dial_scene t2 (its_link g) how n5 n4 third opened [] left moment) =
       subst (λ (map : OpenMap). Shows s4 (dial_scene t2 map how n5 n4 third opened [] left moment)) (turns_have_links.taken g t1 half met1)
       (turns_are_seen.opened _ t2 n4 n3 offered_flags client server opened left moment between2 (after_below n2) refl is.one refl (calls_can_go.proved g.caller.secret client server) reply2) in

@@ -120,7 +120,7 @@ module _ (plan : Plan) (client member controller : ℕ) (can : CanComeIn plan cl
     client = got_map fresh_client plan.clients client can.task can.is_task;
     member = got_map sealing_member plan.members member can.member_plan can.is_member_plan ∙ ap Some (plain_members_stay.made can.member_plan can.plain);
     controller = got_controller plan.hands_on plan.seals plan.tables plan.controllers controller can.table can.name can.is_table can.is_name can.unsealed can.alone;
-    alone = refl;
+    unsealed = refl;
     plain = refl;
     links = refl;
     opened = refl;
@@ -191,6 +191,7 @@ module _ (plan : Plan) (client member controller : ℕ) (can : CanComeIn plan cl
       logon_reply = told.reply;
       short = omega (arith, told.short);
       number = omega arith;
+      alone = refl;
     }
 
     module _ (number : ℕ) (chosen : chosen_place number (starters_of plan) ≡ Some client) (shown : FirstKeyArrives plan client member controller can) where

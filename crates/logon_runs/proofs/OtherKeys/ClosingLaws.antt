@@ -1,6 +1,6 @@
 -- A member closes its client's link, alone or behind the link of its turn, as it is seen of a scene.
 -- Of `grants_go_on`.
-use Rattle.std.proofs.Common.{◌≡◌, ℕ, List, [], ◌∷◌, Option, Some, refl, sym, ap, ap₂, subst, ◌∙◌, slice_get}
+use Rattle.std.proofs.Common.{◌≡◌, ℕ, List, [], ◌∷◌, Option, None, Some, refl, sym, ap, ap₂, subst, ◌∙◌, slice_get}
 use Rattle.std.specs.List.{AllByRecursion}
 use Rattle.wire_base.specs.Maps.{lookup, same_number, take_out}
 use Rattle.outside.specs.declared.action.Action.{Action}
@@ -10,8 +10,7 @@ use Rattle.outside.specs.declared.action.Outcome.{Outcome}
 use Rattle.outside.specs.declared.event.Event.TheVariants as event
 use Rattle.outside.specs.Machine.{whole_step}
 use Rattle.domain_controller.specs.State.{State as ControllerState}
-use Rattle.domain_controller.specs.Step.{step_of as controller_step_of}
-use Rattle.domain_controller.specs.Trusting.{no_trusting}
+use Rattle.domain_controller.specs.TrustStep.{trust_step_of as controller_step_of}
 use Rattle.domain_controller.proofs.TurnOutLaws.{got_set}
 use Rattle.logon_client.specs.State.{State as ClientState}
 use Rattle.logon_client.specs.Machine.{step_of as client_step_of}
@@ -33,7 +32,7 @@ use Rattle.logon_runs.specs.Scenes.Turnings.{ClosesTo, shut_in}
 use Rattle.logon_runs.specs.Scenes.WaitingUnits.{Comes, after_hearing, with_client_at, with_controller_at, with_member_at}
 use Rattle.logon_runs.proofs.Scenes.SceneLaws.{first_comes}
 use Rattle.logon_runs.proofs.Scenes.TurningSceneLaws.{lands_closing}
-use Rattle.logon_runs.proofs.Scenes.WaitingLaws.{alone_after, plain_after, waiting_comes}
+use Rattle.logon_runs.proofs.Scenes.WaitingLaws.{unsealed_after, plain_after, waiting_comes}
 
 -- the member closes its client's link, and then does other things
 pub member_shuts : (s : State) (v : Scene) (unit : BagUnit) (later : List BagUnit) (after : MemberState) (client : ClientState) (left : List (List ℕ)) (link : ℕ) (cause : CloseCause)
@@ -53,7 +52,7 @@ member_shuts s v unit later after client left link cause actions shows first clo
     ∙ ap (λ (l : List (List ℕ)). whole_step l left all after) (sym shows.left)))
     (waiting_comes.client (shut_link link s2) v.at_client v.client client (event.Closed link) left [] shows.client
     (ap (λ (now : ℕ). client_step_of v.client (event.Closed link) now left) shows.moment ∙ closed))
-    (got_set s.ends.clients v.at_client v.client client shows.client) (got_set s.ends.members v.at_member v.member after shows.member) shows.controller shows.alone
+    (got_set s.ends.clients v.at_client v.client client shows.client) (got_set s.ends.members v.at_member v.member after shows.member) shows.controller shows.unsealed
     (plain_after v.member after (event.Bytes unit.link unit.bytes) v.moment v.left left all shows.plain step)
 
 -- two links are closed, and between them an outcome is told
@@ -68,10 +67,10 @@ lands_closing_two : (s : State) (v : Scene) (unit : BagUnit) (later : List BagUn
     hear one (event.Closed link) (shut_link link s2) ≡ after_hearing ones left [] (shut_link link s2) →
     hear other (event.Closed next) (shut_link next s3) ≡ after_hearing others left [] (shut_link next s3) →
     slice_get others.clients v.at_client ≡ Some client → slice_get others.members v.at_member ≡ Some member → slice_get others.controllers v.at_controller ≡ Some controller →
-    controller.trusting ≡ no_trusting → SealsNothing member →
+    controller.trusting.sealing ≡ None → SealsNothing member →
     Shows (onward s).state (shut_in next (shut_in link (record v { client = client; member = member; controller = controller; units = later; left = left })))
 lands_closing_two s v unit later end one other ends ones others left link next actions client member controller cause cause_too tells what are shows comes closes closes_too heard heard_one heard_other
-    is_client is_member is_controller alone plain =
+    is_client is_member is_controller unsealed plain =
     let rest : List Action = action.Told tells what ∷ action.Close next cause_too ∷ [] in
     let s1 : State = settle comes.number s in
     let s2 : State = (after_hearing ends left actions s1).state in
@@ -93,7 +92,7 @@ lands_closing_two s v unit later end one other ends ones others left link next a
       client = is_client;
       member = is_member;
       controller = is_controller;
-      alone = alone;
+      unsealed = unsealed;
       plain = plain;
       links = shows.links;
       opened = ap (λ (o : OpenMap). take_out same_number next (take_out same_number link o)) shows.opened;
@@ -126,11 +125,11 @@ member_shuts_both s v unit later after client controller left link next cause ca
     (waiting_comes.member s1 v.at_member v.member after (event.Bytes unit.link unit.bytes) left all shows.member shows.plain
     (ap₂ (λ (now : ℕ) (l : List (List ℕ)). member_step_of v.member (event.Bytes unit.link unit.bytes) now l) shows.moment shows.left ∙ step
     ∙ ap (λ (l : List (List ℕ)). whole_step l left all after) (sym shows.left)))
-    (waiting_comes.controller (shut_link link s2) v.at_controller v.controller controller (event.Closed link) left [] shows.controller shows.alone
+    (waiting_comes.controller (shut_link link s2) v.at_controller v.controller controller (event.Closed link) left [] shows.controller shows.unsealed
     (ap (λ (now : ℕ). controller_step_of v.controller (event.Closed link) now left) shows.moment ∙ closed))
     (waiting_comes.client (shut_link next s3) v.at_client v.client client (event.Closed next) left [] shows.client
     (ap (λ (now : ℕ). client_step_of v.client (event.Closed next) now left) shows.moment ∙ closed_too))
     (got_set s.ends.clients v.at_client v.client client shows.client) (got_set s.ends.members v.at_member v.member after shows.member)
     (got_set s.ends.controllers v.at_controller v.controller controller shows.controller)
-    (alone_after v.controller controller (event.Closed link) v.moment left left [] shows.alone closed)
+    (unsealed_after v.controller controller (event.Closed link) v.moment left left [] shows.unsealed closed)
     (plain_after v.member after (event.Bytes unit.link unit.bytes) v.moment v.left left all shows.plain step)

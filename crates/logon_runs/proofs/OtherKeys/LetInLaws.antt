@@ -56,7 +56,7 @@ use Rattle.logon_steps.specs.Meeting.{flags_agreed}
 use Rattle.logon_steps.specs.MemberAnswers.{let_in}
 use Rattle.logon_steps.specs.Turning.{IsTurnReply}
 use Rattle.logon_steps.proofs.ClientStepLaws.{clients_step}
-use Rattle.logon_steps.proofs.ControllerTurnLaws.{controllers_step}
+use Rattle.logon_steps.proofs.BesideTrustsLaws.{trusts_stay_beside}
 use Rattle.logon_steps.proofs.MemberLinkLaws.{links_step}
 use Rattle.logon_steps.proofs.StreamLaws.{same}
 use Rattle.logon_steps.proofs.TurningLaws.{response_comes}
@@ -69,6 +69,7 @@ use Rattle.logon_runs.specs.Phases.{Arrival, WhoAsked, key_at, terms_at}
 use Rattle.logon_runs.specs.Rests.{three_of}
 use Rattle.logon_runs.specs.Runs.{ClientAnswer}
 use Rattle.logon_runs.specs.Scenes.Scene.{Shows}
+use Rattle.logon_runs.specs.Scenes.AskScenes.{kept_by}
 use Rattle.logon_runs.specs.Scenes.TurnScenes.{IsBetween, TurnScene, turn_scene, unit_back}
 use Rattle.logon_runs.specs.Scenes.Turnings.{ClosesTo, shut_in}
 use Rattle.logon_runs.specs.Scenes.WaitingUnits.{waiting}
@@ -281,7 +282,7 @@ module _ (s : State) (g : Meeting) (terms : Terms) (info : NetworkInfo) (challen
       (closes_turn its_turn next number (step.Reply q) computers (unit_back its_turn (reply_bytes number r) ∷ []) left moment between)
       (behind taken)
       (granted_shuts g.plan g.caller how o info g.place next number link moment q r sam logon_asked g.task bytes left below reply_is granted is)
-      (controllers_step.closed table name computers link moment _ left)
+      (trusts_stay_beside.closed (kept_by g table name computers) link moment _ left g.trusts.nobody)
       (clients_step.closed g.task g.link moment (client_phase.Asked terms client_question.Who) left)))
   granted_on can are below between reply_is granted joined taken (inr is) shows =
       let phase : ClientPhase = client_phase.Asked terms client_question.Who in
@@ -299,7 +300,7 @@ module _ (s : State) (g : Meeting) (terms : Terms) (info : NetworkInfo) (challen
             (heard_back its_turn (reply_bytes number r) next number (step.Reply q) computers (turn_link link) left moment between (response_comes number q r reply_is))
             (closes_turn its_turn next number (step.Reply q) computers (unit_back its_turn (reply_bytes number r) ∷ []) left moment between) (tt, (tt, tt))
             (granted_replies g.plan g.caller how o info g.place next number link moment q r sam logon_asked g.task 0 bytes left below reply_is granted is)
-            (controllers_step.closed table name computers link moment _ left)));
+            (trusts_stay_beside.closed (kept_by g table name computers) link moment _ left g.trusts.nobody)));
       })
 
 -- ---- what a client sent

@@ -13,6 +13,7 @@ use Rattle.outside.specs.declared.action.Judged.TheVariants as judged
 use Rattle.outside.specs.declared.event.Event.TheVariants as event
 use Rattle.outside.specs.Machine.{whole_step}
 use Rattle.rpc_units.specs.Calls.{bytes_of_call}
+use Rattle.logon_stubs.specs.declared.calls.Call.{Call}
 use Rattle.logon_stubs.specs.declared.calls.Reply.{Reply}
 use Rattle.logon_stubs.specs.declared.calls.Reply.TheVariants as reply
 use Rattle.logon_stubs.specs.declared.info.SamInfo.{SamInfo}
@@ -52,9 +53,11 @@ use Rattle.logon_steps.specs.ControllerTurns.{controller_at, passed_reply, reply
 use Rattle.logon_steps.specs.Granting.{cleared, cleared_at, info_told}
 use Rattle.logon_steps.specs.MemberAnswers.{granting}
 use Rattle.logon_steps.specs.SetTurns.{IsSetTurn, set_taken}
+use Rattle.logon_steps.specs.BesideTrusts.{AtTrusts, Keeping}
 use Rattle.logon_steps.specs.Turning.{IsTurnCall, turn_request}
 use Rattle.logon_steps.proofs.AnsweringLaws.{calls_are_answered}
 use Rattle.logon_steps.proofs.CallingLaws.{calls_can_go}
+use Rattle.logon_steps.proofs.BesideTrustsLaws.{trusts_stay_beside}
 use Rattle.logon_steps.proofs.ControllerTurnLaws.{controllers_step}
 use Rattle.logon_steps.proofs.GrantingLaws.{logons_are_granted}
 use Rattle.logon_steps.proofs.SetTurnLaws.{controllers_set, set_units_go, taken_in_range}
@@ -67,6 +70,7 @@ use Rattle.logon_runs.specs.Phases.{Acked, BindsBefore, BindsHeld, Calls, DialsB
 use Rattle.logon_runs.specs.Runs.{ClientAnswer, hidden, info_asked, sam_for, with_moved}
 use Rattle.logon_runs.specs.FirstLogon.FirstRuns.{with_pair}
 use Rattle.logon_runs.specs.Scenes.Scene.{Shows}
+use Rattle.logon_runs.specs.Scenes.AskScenes.{kept_by}
 use Rattle.logon_runs.specs.Scenes.TurnScenes.{IsBetween, TurnScene, dial_scene, waiting_scene, with_accounts, with_secrets}
 use Rattle.logon_runs.proofs.Scenes.AskSceneLaws.{logons_are_seen}
 use Rattle.logon_runs.proofs.FirstLogon.FirstTraceLaws.{after_below}
@@ -151,8 +155,10 @@ first_answered p s a who v client left moment known ready fits shows =
     (turns_are_seen.answers s (turn_on p a who.later (who.sent ∷ []) v (First client)) (after v.next) v.next (step.Reply (question.Challenge client)) (challenge_call p.meeting.caller client)
     (reply.Challenge (record { challenge = three.one; status = 0 })) v.computers later (three.one ∷ more) more moment
     (between p s a who v (First client) left moment fits) can
+    (trusts_stay_beside.called (kept_by (own p) v.table p.name v.computers) (length v.links) moment v.next (challenge_call p.meeting.caller client) (three.one ∷ more) more _ _ _ p.meeting.trusts.nobody
+    fits.0.next_below can tt
     (controllers_step.challenged v.table p.name v.computers (length v.links) moment v.next p.meeting.caller client three.one more fits.0.next_below can
-    (of_table p v (λ (t : AccountTable). knows_in t.accounts p.meeting.caller.computer ≡ true) fits.1.2 known.knows))
+    (of_table p v (λ (t : AccountTable). knows_in t.accounts p.meeting.caller.computer ≡ true) fits.1.2 known.knows)))
     (left_so s (λ (l : List (List ℕ)). scene_of p (Calls a who v (First client)) l moment) left _ shows.left three.are shows))
 
 -- the channel stands, and others are as they were
@@ -191,9 +197,11 @@ second_answered p s a who v client server left moment known fits shows =
     (turns_are_seen.answers s (turn_on p a who.later (who.sent ∷ []) v (Second client server)) (after v.next) v.next (step.Reply question.Authenticate) (auth_call p.meeting.caller client server)
     (reply.Authenticate (record { credential = server_credential p.meeting.caller.secret client server; flags = offered_flags; status = 0 })) v.computers later left left moment
     (between p s a who v (Second client server) left moment fits) can
+    (trusts_stay_beside.called (kept_by (own p) v.table p.name v.computers) (length v.links) moment v.next (auth_call p.meeting.caller client server) left left _ _ _ p.meeting.trusts.nobody
+    fits.0.next_below can tt
     (controllers_step.proved v.table p.name v.computers (length v.links) moment v.next p.meeting.caller client server p.machine left fits.0.next_below can
     (of_table p v (λ (t : AccountTable). account_for t (auth_value p.meeting.caller client server) ≡ Some p.machine) fits.1.2 (known.machine_found client server)) (known.secret fits.1.1)
-    fits.1.0) shows)
+    fits.1.0)) shows)
 
 -- accounts stay in their ranges where a count is 0
 counted_range : (place : ℕ) (accounts : List Account) → AllByRecursion InRangeAccount accounts → AllByRecursion InRangeAccount (at_place place (with_count 0) accounts)
@@ -241,6 +249,8 @@ third_answered p s a who v o c timestamp left moment known user may_log ready fi
     let later : Computers = with_moved (own p) c timestamp v.computers in
     let name : List ℕ = p.meeting.caller.computer in
     let accounts : AccountTable = cleared v.table p.meeting.task.user in
+    let call : Call = logon_call p.meeting.caller o timestamp (info_asked (own p) a) in
+    let kept : Keeping = kept_by (own p) v.table p.name v.computers in
     let rest : List (List ℕ × SecureChannelState) = take_out same_name name v.computers.channels in
     let may_then : MayLogOn v.table (info_told p.meeting.task) s.moment =
     subst (λ (found : Option ControllerState). IsSomeAnd found (λ (k : ControllerState). MayLogOn k.table (info_told p.meeting.task) s.moment)) shows.controller may_log in
@@ -269,7 +279,9 @@ third_answered p s a who v o c timestamp left moment known user may_log ready fi
     )
     (turns_are_seen.judges s (turn_on p a who.later (who.sent ∷ []) v (Third o c timestamp)) (after v.next) v.next (step.Reply question.Logon) (logon_call p.meeting.caller o timestamp (info_asked (own p) a))
     (granting o timestamp 0 1 (hidden o (sam_for (own p) a v.table p.name p.account moment))) (judged.Passed 0) v.computers later accounts left left moment
-    (between p s a who v (Third o c timestamp) left moment fits) can (grants_then p a v o c timestamp moment left known user fits.0 fits.1 may can) shows)
+    (between p s a who v (Third o c timestamp) left moment fits) can
+    (trusts_stay_beside.called kept (length v.links) moment v.next call left left _ _ _ p.meeting.trusts.nobody fits.0.next_below can
+    (trusts_stay_beside.alone kept call (ap (λ (trusts : AtTrusts). trusts.requesters) known.alone)) (grants_then p a v o c timestamp moment left known user fits.0 fits.1 may can)) shows)
 
 -- the account by which the channel was opened has a place
 pub record HasPlace (found : Option ℕ) : Type 0 where
@@ -319,8 +331,9 @@ fourth_answered p s a who v o c timestamp new left moment known fits shows =
     )
     (sets_are_seen.sets s (turn_on p a who.later (who.sent ∷ []) v (Fourth o c timestamp new)) (after v.next) v.next (step.Set set_step.Reply) (change_call p.meeting.caller o timestamp new)
     (set_taken o timestamp) (judged.Passed 0) (secrets_of accounts.accounts) v.computers later accounts left left moment (between p s a who v (Fourth o c timestamp new) left moment fits) can
+    (trusts_stay_beside.set (kept_by (own p) v.table p.name v.computers) (length v.links) moment v.next (change_call p.meeting.caller o timestamp new) left left _ _ _ p.meeting.trusts.nobody fits.0.next_below can
     (controllers_set.set v.table p.name v.computers (length v.links) moment v.next timestamp there.place p.meeting.caller o c new left fits.0.next_below can is_secret fits.1.1 fits.1.2
-    found) shows)
+    found)) shows)
 
 pub calls_on : (p : Arrival) (s : State) (a : ClientAnswer) (who : WhoAsked p a) (v : TurnAt) (aim : Aim) (left : List (List ℕ)) (moment : ℕ) → IsKnown p → IsReady p s →
     IsTurning p a v × IsAimed p v aim → HasUserAt p s (Calls a who v aim) move.Onward → ArrivesAt p (Calls a who v aim) move.Onward → Shows s (scene_of p (Calls a who v aim) left moment) → ComesBy p (progress_onward {p = p} (Calls a who v aim)) s (onward s).state

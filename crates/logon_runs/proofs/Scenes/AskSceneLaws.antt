@@ -48,11 +48,11 @@ use Rattle.logon_steps.specs.MemberAnswers.{granting, let_in, sam_shown}
 use Rattle.logon_steps.specs.MemberLinks.{asked_talk, logons_resting, one_link}
 use Rattle.logon_steps.specs.MemberTurns.{bind_waits, logons_keeping, member_at, on_turn, plan_with}
 use Rattle.logon_steps.proofs.AnswersLaws.{answers_are_asked}
-use Rattle.logon_steps.proofs.ControllerTurnLaws.{controllers_step}
+use Rattle.logon_steps.proofs.BesideTrustsLaws.{trusts_stay_beside}
 use Rattle.logon_steps.proofs.MemberAnswerLaws.{logons_end}
 use Rattle.logon_steps.proofs.MemberLinkLaws.{links_step}
 use Rattle.logon_steps.proofs.TurningLaws.{response_comes, unit_comes}
-use Rattle.logon_runs.specs.Scenes.AskScenes.{LogonsAreSeen, turn_within, with_controller, with_talk}
+use Rattle.logon_runs.specs.Scenes.AskScenes.{LogonsAreSeen, kept_by, turn_within, with_controller, with_talk}
 use Rattle.logon_runs.specs.Scenes.LinkScenes.{given_after, given_caller, its_link, Meeting, meeting_scene, unit_down, unit_up}
 use Rattle.logon_runs.specs.Scenes.Scene.{Shows}
 use Rattle.logon_runs.specs.Scenes.TurnScenes.{IsBetween, TurnScene, turn_scene, unit_back, waiting_scene}
@@ -103,7 +103,7 @@ granted_at s g info table name links opened link o waits challenge message sam n
     (heard_back t bytes next number (step.Reply question.Logon) computers (turn_link link) left moment between (response_comes number question.Logon (granting o timestamp stamp authoritative sam) is))
     (closes_turn t next number (step.Reply question.Logon) computers (unit_back t bytes ∷ []) left moment between) (tt, (tt, tt))
     (logons_end.granted g.plan g.caller o info sam logon g.task g.place next number link moment timestamp stamp authoritative most one left below is short who back)
-    (controllers_step.closed table name computers link moment _ left)))
+    (trusts_stay_beside.closed (kept_by g table name computers) link moment _ left g.trusts.nobody)))
 
 pub logons_are_seen : LogonsAreSeen
 logons_are_seen = record {

@@ -9,8 +9,7 @@ use Rattle.outside.specs.declared.event.Event.TheVariants as event
 use Rattle.outside.specs.Drawing.{Drawing}
 use Rattle.outside.specs.Machine.{whole_step}
 use Rattle.domain_controller.specs.State.{State as ControllerState}
-use Rattle.domain_controller.specs.Step.{step_of as controller_step_of}
-use Rattle.domain_controller.specs.Trusting.{no_trusting}
+use Rattle.domain_controller.specs.TrustStep.{trust_step_of as controller_step_of}
 use Rattle.domain_controller.proofs.TurnOutLaws.{got_set}
 use Rattle.logon_client.specs.State.{State as ClientState}
 use Rattle.logon_client.specs.Machine.{step_of as client_step_of}
@@ -30,7 +29,7 @@ use Rattle.world_moves.specs.Moving.{onward, settle}
 use Rattle.world_moves.proofs.QuietLaws.{units_by}
 use Rattle.logon_runs.specs.Scenes.Scene.{HasFirst, IsNoClose, Scene, ScenesGoOn, Shows, dials_made, units_sent, with_actions}
 use Rattle.logon_runs.specs.Scenes.WaitingUnits.{Comes, after_hearing, waiting, with_client_at, with_controller_at, with_member_at}
-use Rattle.logon_runs.proofs.Scenes.WaitingLaws.{alone_after, plain_after, waiting_comes}
+use Rattle.logon_runs.proofs.Scenes.WaitingLaws.{unsealed_after, plain_after, waiting_comes}
 
 -- ---- lists of ends
 
@@ -101,9 +100,9 @@ seen client member controller units v = record v { client = client; member = mem
 lands : (s : State) (v : Scene) (unit : BagUnit) (later : List BagUnit) (end : EndId) (ends : EndStates) (left : List (List ℕ)) (actions : List Action)
     (client : ClientState) (member : MemberState) (controller : ControllerState) → Shows s v → (comes : Comes s unit later end) → AllByRecursion IsNoClose actions →
     hear end (event.Bytes unit.link unit.bytes) (settle comes.number s) ≡ after_hearing ends left actions (settle comes.number s) →
-    slice_get ends.clients v.at_client ≡ Some client → slice_get ends.members v.at_member ≡ Some member → slice_get ends.controllers v.at_controller ≡ Some controller → controller.trusting ≡ no_trusting → SealsNothing member →
+    slice_get ends.clients v.at_client ≡ Some client → slice_get ends.members v.at_member ≡ Some member → slice_get ends.controllers v.at_controller ≡ Some controller → controller.trusting.sealing ≡ None → SealsNothing member →
     Shows (onward s).state (with_actions end actions left (seen client member controller later v))
-lands s v unit later end ends left actions client member controller shows comes none_close heard is_client is_member is_controller alone plain =
+lands s v unit later end ends left actions client member controller shows comes none_close heard is_client is_member is_controller unsealed plain =
     let s1 : State = settle comes.number s in
     let s2 : State = (after_hearing ends left actions s1).state in
     let s3 : State = perform_all_quietly end actions s2 in
@@ -113,7 +112,7 @@ lands s v unit later end ends left actions client member controller shows comes 
       client = ap (λ (e : EndStates). slice_get e.clients v.at_client) leaves.ends ∙ is_client;
       member = ap (λ (e : EndStates). slice_get e.members v.at_member) leaves.ends ∙ is_member;
       controller = ap (λ (e : EndStates). slice_get e.controllers v.at_controller) leaves.ends ∙ is_controller;
-      alone = alone;
+      unsealed = unsealed;
       plain = plain;
       links = leaves.links ∙ shows.links;
       opened = leaves.opened ∙ shows.opened;
@@ -136,21 +135,21 @@ scenes_go_on = record {
       (waiting_comes.client (settle comes.number s) v.at_client v.client after (event.Bytes unit.link unit.bytes) left actions shows.client
       (ap₂ (λ (now : ℕ) (l : List (List ℕ)). client_step_of v.client (event.Bytes unit.link unit.bytes) now l) shows.moment shows.left ∙ step
       ∙ ap (λ (l : List (List ℕ)). whole_step l left actions after) (sym shows.left)))
-      (got_set s.ends.clients v.at_client v.client after shows.client) shows.member shows.controller shows.alone shows.plain;
+      (got_set s.ends.clients v.at_client v.client after shows.client) shows.member shows.controller shows.unsealed shows.plain;
   to_member = λ s v unit later after left actions shows first none_close step.
       let comes : Comes s unit later (Member v.at_member) = first_comes s v unit later (Member v.at_member) shows first in
       lands s v unit later (Member v.at_member) (with_member_at v.at_member after s.ends) left actions v.client after v.controller shows comes none_close
       (waiting_comes.member (settle comes.number s) v.at_member v.member after (event.Bytes unit.link unit.bytes) left actions shows.member shows.plain
       (ap₂ (λ (now : ℕ) (l : List (List ℕ)). member_step_of v.member (event.Bytes unit.link unit.bytes) now l) shows.moment shows.left ∙ step
       ∙ ap (λ (l : List (List ℕ)). whole_step l left actions after) (sym shows.left)))
-      shows.client (got_set s.ends.members v.at_member v.member after shows.member) shows.controller shows.alone
+      shows.client (got_set s.ends.members v.at_member v.member after shows.member) shows.controller shows.unsealed
       (plain_after v.member after (event.Bytes unit.link unit.bytes) v.moment v.left left actions shows.plain step);
   to_controller = λ s v unit later after left actions shows first none_close step.
       let comes : Comes s unit later (Controller v.at_controller) = first_comes s v unit later (Controller v.at_controller) shows first in
       lands s v unit later (Controller v.at_controller) (with_controller_at v.at_controller after s.ends) left actions v.client v.member after shows comes none_close
-      (waiting_comes.controller (settle comes.number s) v.at_controller v.controller after (event.Bytes unit.link unit.bytes) left actions shows.controller shows.alone
+      (waiting_comes.controller (settle comes.number s) v.at_controller v.controller after (event.Bytes unit.link unit.bytes) left actions shows.controller shows.unsealed
       (ap₂ (λ (now : ℕ) (l : List (List ℕ)). controller_step_of v.controller (event.Bytes unit.link unit.bytes) now l) shows.moment shows.left ∙ step
       ∙ ap (λ (l : List (List ℕ)). whole_step l left actions after) (sym shows.left)))
       shows.client shows.member (got_set s.ends.controllers v.at_controller v.controller after shows.controller)
-      (alone_after v.controller after (event.Bytes unit.link unit.bytes) v.moment v.left left actions shows.alone step) shows.plain;
+      (unsealed_after v.controller after (event.Bytes unit.link unit.bytes) v.moment v.left left actions shows.unsealed step) shows.plain;
 }

@@ -38,8 +38,7 @@ use Rattle.channel_client.specs.declared.state.Step.TheVariants as step
 use Rattle.channel_client.specs.Machine.{SetOutcome, after, change_call, judge_set, logon_call, offered_flags, server_credential, settle_set}
 use Rattle.controller_calls.specs.declared.state.Computers.{Computers}
 use Rattle.domain_controller.specs.State.{State as ControllerState}
-use Rattle.domain_controller.specs.Step.{step_of as controller_step_of}
-use Rattle.domain_controller.specs.Trusting.{no_trusting}
+use Rattle.domain_controller.specs.TrustStep.{trust_step_of as controller_step_of}
 use Rattle.domain_controller.proofs.TurnOutLaws.{got_set}
 use Rattle.logon_client.specs.State.{State as ClientState}
 use Rattle.member_server.specs.SealStep.{SealsNothing}
@@ -62,18 +61,18 @@ use Rattle.logon_steps.specs.ControllerTurns.{reply_bytes, turn_link}
 use Rattle.logon_steps.specs.MemberTurns.{bind_waits, logons_keeping, member_at, on_turn, plan_with}
 use Rattle.logon_steps.specs.SetTurns.{set_reply_bytes, set_request}
 use Rattle.logon_steps.specs.Turning.{IsTurnReply, turn_ack}
-use Rattle.logon_steps.proofs.ControllerTurnLaws.{controllers_step}
+use Rattle.logon_steps.proofs.BesideTrustsLaws.{trusts_stay_beside}
 use Rattle.logon_steps.proofs.SetTurnLaws.{set_comes, set_replied, set_reply_comes, set_turns_step}
 use Rattle.logon_steps.proofs.TurningLaws.{response_comes, turn_ack_sends, unit_comes}
 use Rattle.logon_runs.specs.Scenes.Scene.{HasFirst, IsNoClose, Scene, Shows, dials_made, units_sent, with_actions}
 use Rattle.logon_runs.specs.Scenes.SetScenes.{SetsAreSeen}
 use Rattle.logon_runs.specs.Scenes.Turnings.{ClosesTo, shut_in}
-use Rattle.logon_runs.specs.Scenes.TurnScenes.{IsBetween, TurnScene, dial_scene, turn_scene, unit_back, unit_there, waiting_scene, with_accounts, with_secrets}
+use Rattle.logon_runs.specs.Scenes.TurnScenes.{IsBetween, TurnScene, dial_scene, kept_in, turn_scene, unit_back, unit_there, waiting_scene, with_accounts, with_secrets}
 use Rattle.logon_runs.specs.Scenes.WaitingUnits.{Comes, after_hearing, waiting, with_controller_at, with_member_at}
 use Rattle.logon_runs.proofs.Scenes.SceneLaws.{Leaves, first_comes, performed_quietly, quietly_leave, scenes_go_on, sends_leave}
 use Rattle.logon_runs.proofs.Scenes.TurnSceneLaws.{closes_turn, heard_back, heard_there, sent_back, sent_there}
 use Rattle.logon_runs.proofs.Scenes.TurningSceneLaws.{scenes_turn}
-use Rattle.logon_runs.proofs.Scenes.WaitingLaws.{alone_after, plain_after, waiting_comes}
+use Rattle.logon_runs.proofs.Scenes.WaitingLaws.{unsealed_after, plain_after, waiting_comes}
 
 -- ---- a text is kept before the link is closed
 
@@ -89,9 +88,9 @@ keeps_and_closes : (s : State) (v : Scene) (unit : BagUnit) (later : List BagUni
     hear end (event.Bytes unit.link unit.bytes) (settle comes.number s) ≡ after_hearing ends left all (settle comes.number s) →
     hear other (event.Closed link) (shut_link link kept) ≡ after_hearing others left [] (shut_link link kept) →
     slice_get others.clients v.at_client ≡ Some client → slice_get others.members v.at_member ≡ Some member → slice_get others.controllers v.at_controller ≡ Some controller →
-    controller.trusting ≡ no_trusting → SealsNothing member →
+    controller.trusting.sealing ≡ None → SealsNothing member →
     Shows (onward s).state (with_actions end actions left (shut_in link (record v { client = client; member = member; controller = controller; units = later })))
-keeps_and_closes s v unit later end other ends others left link cause text actions client member controller shows comes closes none_close heard heard_too is_client is_member is_controller alone plain =
+keeps_and_closes s v unit later end other ends others left link cause text actions client member controller shows comes closes none_close heard heard_too is_client is_member is_controller unsealed plain =
     let s1 : State = settle comes.number s in
     let all : List Action = action.Keep text ∷ action.Close link cause ∷ actions in
     let s2 : State = (after_hearing ends left all s1).state in
@@ -110,7 +109,7 @@ keeps_and_closes s v unit later end other ends others left link cause text actio
       client = ap (λ (e : EndStates). slice_get e.clients v.at_client) leaves.ends ∙ is_client;
       member = ap (λ (e : EndStates). slice_get e.members v.at_member) leaves.ends ∙ is_member;
       controller = ap (λ (e : EndStates). slice_get e.controllers v.at_controller) leaves.ends ∙ is_controller;
-      alone = alone;
+      unsealed = unsealed;
       plain = plain;
       links = leaves.links ∙ shows.links;
       opened = leaves.opened ∙ ap (λ (o : OpenMap). take_out same_number link o) shows.opened;
@@ -137,10 +136,10 @@ member_keeps s v unit later after controller left link cause text actions shows 
     (waiting_comes.member s1 v.at_member v.member after (event.Bytes unit.link unit.bytes) left all shows.member shows.plain
     (ap₂ (λ (now : ℕ) (l : List (List ℕ)). member_step_of v.member (event.Bytes unit.link unit.bytes) now l) shows.moment shows.left ∙ step
     ∙ ap (λ (l : List (List ℕ)). whole_step l left all after) (sym shows.left)))
-    (waiting_comes.controller (shut_link link (kept_at (Member v.at_member) ends left all text s1)) v.at_controller v.controller controller (event.Closed link) left [] shows.controller shows.alone
+    (waiting_comes.controller (shut_link link (kept_at (Member v.at_member) ends left all text s1)) v.at_controller v.controller controller (event.Closed link) left [] shows.controller shows.unsealed
     (ap (λ (now : ℕ). controller_step_of v.controller (event.Closed link) now left) shows.moment ∙ closed))
     shows.client (got_set s.ends.members v.at_member v.member after shows.member) (got_set s.ends.controllers v.at_controller v.controller controller shows.controller)
-    (alone_after v.controller controller (event.Closed link) v.moment left left [] shows.alone closed)
+    (unsealed_after v.controller controller (event.Closed link) v.moment left left [] shows.unsealed closed)
     (plain_after v.member after (event.Bytes unit.link unit.bytes) v.moment v.left left all shows.plain step)
 
 -- ---- the reply that opens the channel
@@ -180,7 +179,7 @@ module _ (s : State) (t : TurnScene) (next number flags : ℕ) (client server cu
       ∙ ap (λ (k : SecretsState). whole_step left left (action.Close t.link close.CallDone ∷ actions)
       (member_at (logons_keeping (plan_with k t.plan) t.caller (standing.Open (after_call fresh (timestamp_of moment))) t.info t.place (after next) next set t.asked) t.accepted (bind_waits next)))
       (sym secrets))
-      (controllers_step.closed t.table t.name computers t.link moment _ left)
+      (trusts_stay_beside.closed (kept_in t computers) t.link moment _ left t.trusts.nobody)
 
   opened_kept : t.plan.secrets ≡ two current new true → IsTurnReply question.Authenticate opening → Replied →
       Shows (onward s).state
@@ -192,7 +191,7 @@ module _ (s : State) (t : TurnScene) (next number flags : ℕ) (client server cu
       (closes_turn t next number (step.Reply question.Authenticate) computers (unit_back t (reply_bytes number opening) ∷ []) left moment between) (tt, tt)
       (ap₂ (λ (h : Standing) (k : SecretsState). member_step_of (member_of t h k next number (step.Reply question.Authenticate)) (event.Bytes t.link (reply_bytes number opening)) moment left) half secrets
       ∙ set_turns_step.opened_next t.plan t.caller t.info t.place next number t.link moment flags client server current new t.asked t.accepted left below fits is)
-      (controllers_step.closed t.table t.name computers t.link moment _ left)
+      (trusts_stay_beside.closed (kept_in t computers) t.link moment _ left t.trusts.nobody)
 
 -- ---- the bind, the call and the reply
 
@@ -237,7 +236,7 @@ set_on s t o later r next number current new computers left moment between below
     (closes_turn t next number (step.Set set_step.Reply) computers (unit_back t bytes ∷ []) left moment between) (tt, tt)
     (ap₂ (λ (h : Standing) (k : SecretsState). member_step_of (member_of t h k next number (step.Set set_step.Reply)) (event.Bytes t.link bytes) moment left) is_open secrets
     ∙ set_by t.plan t.caller o later r t.info t.place next number t.link moment current new t.asked t.accepted left below range judged)
-    (controllers_step.closed t.table t.name computers t.link moment _ left)
+    (trusts_stay_beside.closed (kept_in t computers) t.link moment _ left t.trusts.nobody)
 
 pub sets_are_seen : SetsAreSeen
 sets_are_seen = record {

@@ -9,10 +9,9 @@ use Rattle.outside.specs.declared.action.CloseCause.{CloseCause}
 use Rattle.outside.specs.declared.event.Event.{Event}
 use Rattle.outside.specs.declared.event.Event.TheVariants as event
 use Rattle.outside.specs.Drawing.{Drawing}
-use Rattle.outside.specs.Machine.{Stepped, whole_step}
+use Rattle.outside.specs.Machine.{whole_step}
 use Rattle.domain_controller.specs.State.{State as ControllerState}
 use Rattle.domain_controller.specs.TrustStep.{trust_step_of}
-use Rattle.domain_controller.proofs.PlainLaws.{plain_controllers_stay}
 use Rattle.world_moves.specs.declared.bag.BagUnit.{BagUnit}
 use Rattle.world_moves.specs.declared.links.EndId.{EndId}
 use Rattle.world_moves.specs.declared.links.EndId.TheVariants.{Controller}
@@ -20,8 +19,8 @@ use Rattle.world_moves.specs.declared.links.OpenLink.{OpenLink}
 use Rattle.world_moves.specs.declared.links.Route.{Route}
 use Rattle.world_moves.specs.declared.state.State.{State}
 use Rattle.world_moves.specs.declared.state.WaitingDial.{WaitingDial}
-use Rattle.world_moves.specs.Acting.{AfterHearing, close_open, closed_at, done, done_quietly, hear, heard_by, perform_all, perform_all_quietly, shut_link}
-use Rattle.world_moves.specs.Ends.{EndStates, controller_done, controller_step}
+use Rattle.world_moves.specs.Acting.{AfterHearing, close_open, closed_at, done, done_quietly, hear, perform_all, perform_all_quietly, shut_link}
+use Rattle.world_moves.specs.Ends.{EndStates}
 use Rattle.world_moves.specs.Links.{OpenMap, accepted, acceptor_of, answered}
 use Rattle.world_moves.specs.Moving.{answer, answer_by, answered_link, connect, connect_by, connect_first, end_of_peer, moment_after, onward, route_to, settle, with_link, without_first}
 use Rattle.logon_runs.specs.Scenes.Scene.{IsNoClose, dials_made, units_sent}
@@ -37,10 +36,8 @@ controller_hears : (ends : EndStates) (at : ℕ) (controller after : ControllerS
     trust_step_of controller what moment left ≡ whole_step left rest actions after →
     Hears (Controller at) what moment ends (with_controller_at at after ends) left rest actions
 controller_hears ends at controller after what moment left rest actions found plain step s same now here =
-    ap (λ (c : Option ControllerState). heard_by (controller_step c at what s.moment s.ends s.chances) s) (ap (λ (e : EndStates). slice_get e.controllers at) same ∙ found)
-    ∙ ap (λ (stepped : Stepped ControllerState). heard_by (controller_done stepped at s.ends s.chances) s)
-    (plain_controllers_stay.step controller what s.moment s.chances.left plain
-    ∙ ap₂ (λ (m : ℕ) (l : List (List ℕ)). trust_step_of controller what m l) now here ∙ step ∙ ap (λ (l : List (List ℕ)). whole_step l rest actions after) (sym here))
+    waiting_comes.controller s at controller after what rest actions (ap (λ (e : EndStates). slice_get e.controllers at) same ∙ found) plain
+    (ap₂ (λ (m : ℕ) (l : List (List ℕ)). trust_step_of controller what m l) now here ∙ step ∙ ap (λ (l : List (List ℕ)). whole_step l rest actions after) (sym here))
     ∙ ap (λ (e : EndStates). after_hearing (with_controller_at at after e) rest actions s) same
 
 -- ---- a unit comes

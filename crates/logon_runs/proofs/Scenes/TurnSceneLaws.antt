@@ -40,12 +40,12 @@ use Rattle.secret_change.specs.declared.secrets.Next.{Next}
 use Rattle.outside.specs.Machine.{whole_step}
 use Rattle.logon_steps.specs.MemberTurns.{bind_waits, logons_keeping, member_at, on_turn, plan_with}
 use Rattle.logon_steps.specs.Turning.{IsTurnReply, turn_ack, turn_request}
-use Rattle.logon_steps.proofs.ControllerTurnLaws.{controllers_step}
+use Rattle.logon_steps.proofs.BesideTrustsLaws.{trusts_stay_beside}
 use Rattle.logon_steps.proofs.MemberTurnLaws.{turns_step}
 use Rattle.logon_steps.proofs.StreamLaws.{same}
 use Rattle.logon_steps.proofs.TurningLaws.{ComesAtOnce, request_comes, response_comes, turn_ack_sends, turn_bind_sends, unit_comes}
 use Rattle.logon_runs.specs.Scenes.Scene.{HasFirst, Shows}
-use Rattle.logon_runs.specs.Scenes.TurnScenes.{IsBetween, TurnScene, TurnsAreSeen, dial_scene, next_turn, turn_scene, unit_back, unit_there, waiting_scene, with_accounts}
+use Rattle.logon_runs.specs.Scenes.TurnScenes.{IsBetween, TurnScene, TurnsAreSeen, dial_scene, kept_in, next_turn, turn_scene, unit_back, unit_there, waiting_scene, with_accounts}
 use Rattle.logon_runs.specs.Scenes.Turnings.{ClosesTo}
 use Rattle.logon_runs.proofs.Scenes.SceneLaws.{scenes_go_on}
 use Rattle.logon_runs.proofs.Scenes.TurningSceneLaws.{scenes_turn}
@@ -108,7 +108,7 @@ half_ends s t how next number client server computers left moment is_nothing bet
     (ap (λ (h : Standing). member_step_of (member_at (logons_keeping t.plan t.caller h t.info t.place next number (step.Reply (question.Challenge client)) t.asked) t.accepted (on_turn t.link))
     (event.Bytes t.link (reply_bytes number r)) moment left) is_nothing
     ∙ turns_step.half t.plan t.caller t.info t.place next number t.link moment client server t.asked t.accepted left below is)
-    (controllers_step.closed t.table t.name computers t.link moment _ left)
+    (trusts_stay_beside.closed (kept_in t computers) t.link moment _ left t.trusts.nobody)
 
 -- the secrets, with another next one
 abbrev pub with_next : Option Next → SecretsState → SecretsState
@@ -136,7 +136,7 @@ opened_ends s t how next number flags client server computers left moment is_hal
     ∙ ap (λ (n : Option Next). whole_step left left (action.Close t.link close.CallDone ∷ action.Dial t.plan.controller ∷ [])
     (member_at (logons_keeping (plan_with (with_next n t.plan.secrets) t.plan) t.caller (standing.Open (after_call o (timestamp_of moment))) t.info t.place (after next) next
     (step.Bind (logon_call t.caller o (timestamp_of moment) (record t.info { logon_id = t.place }))) t.asked) t.accepted (bind_waits next))) (sym one))
-    (controllers_step.closed t.table t.name computers t.link moment _ left)
+    (trusts_stay_beside.closed (kept_in t computers) t.link moment _ left t.trusts.nobody)
 
 pub turns_are_seen : TurnsAreSeen
 turns_are_seen = record {
@@ -146,7 +146,7 @@ turns_are_seen = record {
       (sent_there later (written (bind_of netlogon_syntax number)) between)
       (scenes_turn.member_dials s (waiting_scene t opened how next number what computers units left moment) t.plan.controller [] _ _ (action.Send (length t.links) (written (bind_of netlogon_syntax number)) ∷ [])
       shows refl reach found (tt, tt)
-      (controllers_step.opened t.table t.name computers (length t.links) moment left)
+      (trusts_stay_beside.opened (kept_in t computers) (length t.links) moment left t.trusts.nobody)
       (turns_step.dialled t.plan t.caller how t.info t.place next number (length t.links) moment what t.asked t.accepted left new));
   half = λ s t next number client server computers left moment between below how is shows.
       half_ends s t t.how next number client server computers left moment how between below is shows;
@@ -158,7 +158,7 @@ turns_are_seen = record {
       (scenes_go_on.to_controller s _ (unit_there t (written (bind_of netlogon_syntax number))) [] _ left (action.Send t.link (written (turn_ack number)) ∷ []) shows
       (heard_there t (written (bind_of netlogon_syntax number)) next number what computers (one_link t.link first_talk) left moment between
       (unit_comes (bind_of netlogon_syntax number) (turn_bind_sends number below))) (tt, tt)
-      (controllers_step.bound t.table t.name computers t.link moment number left below));
+      (trusts_stay_beside.bound (kept_in t computers) t.link moment number left t.trusts.nobody below));
   asks = λ s t next number c computers left moment between below shows.
       subst (λ (units : List BagUnit). Shows (onward s).state (turn_scene t (after next) next (step.Reply (question_of c)) computers (turn_link t.link) (units ++ []) left moment))
       (sent_there t (bytes_of_call (turn_request next c) 5840) between)

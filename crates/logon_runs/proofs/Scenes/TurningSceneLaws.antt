@@ -1,6 +1,6 @@
 -- What comes of a unit after which a link is closed, and of a dial that is answered.
 -- Of `scenes_turn`.
-use Rattle.std.proofs.Common.{◌≡◌, ℕ, List, [], ◌∷◌, ◌++◌, length, Option, Some, sym, ap, ap₂, subst, ◌∙◌, slice_get, drop}
+use Rattle.std.proofs.Common.{◌≡◌, ℕ, List, [], ◌∷◌, ◌++◌, length, Option, None, Some, sym, ap, ap₂, subst, ◌∙◌, slice_get, drop}
 use Rattle.std.specs.List.{AllByRecursion}
 use Rattle.wire_base.specs.Maps.{lookup, put, same_number, take_out}
 use Rattle.outside.specs.declared.action.Action.{Action}
@@ -10,8 +10,7 @@ use Rattle.outside.specs.declared.event.Event.TheVariants as event
 use Rattle.outside.specs.Drawing.{Drawing}
 use Rattle.outside.specs.Machine.{whole_step}
 use Rattle.domain_controller.specs.State.{State as ControllerState}
-use Rattle.domain_controller.specs.Step.{step_of as controller_step_of}
-use Rattle.domain_controller.specs.Trusting.{no_trusting}
+use Rattle.domain_controller.specs.TrustStep.{trust_step_of as controller_step_of}
 use Rattle.domain_controller.proofs.TurnOutLaws.{got_set}
 use Rattle.logon_client.specs.State.{State as ClientState}
 use Rattle.logon_client.specs.Machine.{step_of as client_step_of}
@@ -34,7 +33,7 @@ use Rattle.logon_runs.specs.Scenes.Scene.{IsNoClose, Scene, Shows, dials_made, u
 use Rattle.logon_runs.specs.Scenes.Turnings.{ClosesTo, IsFound, ScenesTurn, connect_route, shut_in}
 use Rattle.logon_runs.specs.Scenes.WaitingUnits.{Comes, after_hearing, with_client_at, with_controller_at, with_member_at}
 use Rattle.logon_runs.proofs.Scenes.SceneLaws.{Leaves, first_comes, performed_quietly, quietly_leave}
-use Rattle.logon_runs.proofs.Scenes.WaitingLaws.{alone_after, plain_after, waiting_comes}
+use Rattle.logon_runs.proofs.Scenes.WaitingLaws.{unsealed_after, plain_after, waiting_comes}
 
 -- ---- a link is closed
 
@@ -49,9 +48,9 @@ pub lands_closing : (s : State) (v : Scene) (unit : BagUnit) (later : List BagUn
     hear other (event.Closed link) (shut_link link (after_hearing ends left (action.Close link cause ∷ actions) (settle comes.number s)).state)
     ≡ after_hearing others left [] (shut_link link (after_hearing ends left (action.Close link cause ∷ actions) (settle comes.number s)).state) →
     slice_get others.clients v.at_client ≡ Some client → slice_get others.members v.at_member ≡ Some member → slice_get others.controllers v.at_controller ≡ Some controller →
-    controller.trusting ≡ no_trusting → SealsNothing member →
+    controller.trusting.sealing ≡ None → SealsNothing member →
     Shows (onward s).state (with_actions end actions left (shut_in link (record v { client = client; member = member; controller = controller; units = later })))
-lands_closing s v unit later end other ends others left link cause actions client member controller shows comes closes none_close heard heard_too is_client is_member is_controller alone plain =
+lands_closing s v unit later end other ends others left link cause actions client member controller shows comes closes none_close heard heard_too is_client is_member is_controller unsealed plain =
     let s1 : State = settle comes.number s in
     let all : List Action = action.Close link cause ∷ actions in
     let s2 : State = (after_hearing ends left all s1).state in
@@ -69,7 +68,7 @@ lands_closing s v unit later end other ends others left link cause actions clien
       client = ap (λ (e : EndStates). slice_get e.clients v.at_client) leaves.ends ∙ is_client;
       member = ap (λ (e : EndStates). slice_get e.members v.at_member) leaves.ends ∙ is_member;
       controller = ap (λ (e : EndStates). slice_get e.controllers v.at_controller) leaves.ends ∙ is_controller;
-      alone = alone;
+      unsealed = unsealed;
       plain = plain;
       links = leaves.links ∙ shows.links;
       opened = leaves.opened ∙ ap (λ (o : OpenMap). take_out same_number link o) shows.opened;
@@ -90,9 +89,9 @@ lands_dialled : (s : State) (v : Scene) (end : EndId) (peer : List ℕ) (dials :
     hear (acceptor_of route) (event.Opened (length s.links)) s1 ≡ after_hearing acceptors v.left [] s1 →
     hear end (event.Dialled (length s.links)) s3 ≡ after_hearing ends v.left actions s3 →
     slice_get ends.clients v.at_client ≡ Some client → slice_get ends.members v.at_member ≡ Some member → slice_get ends.controllers v.at_controller ≡ Some controller →
-    controller.trusting ≡ no_trusting → SealsNothing member →
+    controller.trusting.sealing ≡ None → SealsNothing member →
     Shows (connect s).state (with_actions end actions v.left (connect_route route dials (record v { client = client; member = member; controller = controller })))
-lands_dialled s v end peer dials route acceptors ends actions client member controller shows waits reaches found none_close opens dialled is_client is_member is_controller alone plain =
+lands_dialled s v end peer dials route acceptors ends actions client member controller shows waits reaches found none_close opens dialled is_client is_member is_controller unsealed plain =
     let n : ℕ = length s.links in
     let s1 : State = with_link route (without_first s) in
     let s2 : State = (after_hearing acceptors v.left [] s1).state in
@@ -114,7 +113,7 @@ lands_dialled s v end peer dials route acceptors ends actions client member cont
       client = ap (λ (e : EndStates). slice_get e.clients v.at_client) leaves.ends ∙ is_client;
       member = ap (λ (e : EndStates). slice_get e.members v.at_member) leaves.ends ∙ is_member;
       controller = ap (λ (e : EndStates). slice_get e.controllers v.at_controller) leaves.ends ∙ is_controller;
-      alone = alone;
+      unsealed = unsealed;
       plain = plain;
       links = leaves.links ∙ ap (λ (l : List Route). l ++ route ∷ []) shows.links;
       opened = leaves.opened ∙ ap₂ (λ (l : List Route) (o : OpenMap). put same_number (length l) (answered (accepted route)) o) shows.links open_is;
@@ -136,10 +135,10 @@ scenes_turn = record {
       (waiting_comes.member s1 v.at_member v.member after (event.Bytes unit.link unit.bytes) left all shows.member shows.plain
       (ap₂ (λ (now : ℕ) (l : List (List ℕ)). member_step_of v.member (event.Bytes unit.link unit.bytes) now l) shows.moment shows.left ∙ step
       ∙ ap (λ (l : List (List ℕ)). whole_step l left all after) (sym shows.left)))
-      (waiting_comes.controller (shut_link link s2) v.at_controller v.controller controller (event.Closed link) left [] shows.controller shows.alone
+      (waiting_comes.controller (shut_link link s2) v.at_controller v.controller controller (event.Closed link) left [] shows.controller shows.unsealed
       (ap (λ (now : ℕ). controller_step_of v.controller (event.Closed link) now left) shows.moment ∙ closed))
       shows.client (got_set s.ends.members v.at_member v.member after shows.member) (got_set s.ends.controllers v.at_controller v.controller controller shows.controller)
-      (alone_after v.controller controller (event.Closed link) v.moment left left [] shows.alone closed)
+      (unsealed_after v.controller controller (event.Closed link) v.moment left left [] shows.unsealed closed)
       (plain_after v.member after (event.Bytes unit.link unit.bytes) v.moment v.left left all shows.plain step);
   client_closes = λ s v unit later after member left link cause actions shows first closes none_close step closed.
       let comes : Comes s unit later (Client v.at_client) = first_comes s v unit later (Client v.at_client) shows first in
@@ -153,7 +152,7 @@ scenes_turn = record {
       ∙ ap (λ (l : List (List ℕ)). whole_step l left all after) (sym shows.left)))
       (waiting_comes.member (shut_link link s2) v.at_member v.member member (event.Closed link) left [] shows.member shows.plain
       (ap (λ (now : ℕ). member_step_of v.member (event.Closed link) now left) shows.moment ∙ closed))
-      (got_set s.ends.clients v.at_client v.client after shows.client) (got_set s.ends.members v.at_member v.member member shows.member) shows.controller shows.alone
+      (got_set s.ends.clients v.at_client v.client after shows.client) (got_set s.ends.members v.at_member v.member member shows.member) shows.controller shows.unsealed
       (plain_after v.member member (event.Closed link) v.moment left left [] shows.plain closed);
   client_dials = λ s v peer dials after member actions shows waits reach found none_close opens dialled.
       let route : Route = ToMember v.at_client v.at_member in
@@ -169,7 +168,7 @@ scenes_turn = record {
       (waiting_comes.client s3 v.at_client v.client after (event.Dialled (length s.links)) v.left actions shows.client
       (ap (λ (l : List Route). client_step_of v.client (event.Dialled (length l)) s.moment v.left) shows.links
       ∙ ap (λ (now : ℕ). client_step_of v.client (event.Dialled (length v.links)) now v.left) shows.moment ∙ dialled))
-      (got_set s.ends.clients v.at_client v.client after shows.client) (got_set s.ends.members v.at_member v.member member shows.member) shows.controller shows.alone
+      (got_set s.ends.clients v.at_client v.client after shows.client) (got_set s.ends.members v.at_member v.member member shows.member) shows.controller shows.unsealed
       (plain_after v.member member (event.Opened (length v.links)) v.moment v.left v.left [] shows.plain opens);
   member_dials = λ s v peer dials after controller actions shows waits reach found none_close opens dialled.
       let route : Route = ToController v.at_member v.at_controller in
@@ -178,7 +177,7 @@ scenes_turn = record {
       let s3 : State = answered_link (length s.links) (accepted route) (after_hearing acceptors v.left [] s1).state in
       lands_dialled s v (Member v.at_member) peer dials route acceptors (with_member_at v.at_member after acceptors) actions v.client after controller shows waits
       (ap (route_to (Member v.at_member)) reach) found none_close
-      (waiting_comes.controller s1 v.at_controller v.controller controller (event.Opened (length s.links)) v.left [] shows.controller shows.alone
+      (waiting_comes.controller s1 v.at_controller v.controller controller (event.Opened (length s.links)) v.left [] shows.controller shows.unsealed
       (ap (λ (l : List Route). controller_step_of v.controller (event.Opened (length l)) s.moment s.chances.left) shows.links
       ∙ ap₂ (λ (now : ℕ) (l : List (List ℕ)). controller_step_of v.controller (event.Opened (length v.links)) now l) shows.moment shows.left ∙ opens
       ∙ ap (λ (l : List (List ℕ)). whole_step l v.left [] controller) (sym shows.left)))
@@ -186,13 +185,13 @@ scenes_turn = record {
       (ap (λ (l : List Route). member_step_of v.member (event.Dialled (length l)) s.moment v.left) shows.links
       ∙ ap (λ (now : ℕ). member_step_of v.member (event.Dialled (length v.links)) now v.left) shows.moment ∙ dialled))
       shows.client (got_set s.ends.members v.at_member v.member after shows.member) (got_set s.ends.controllers v.at_controller v.controller controller shows.controller)
-      (alone_after v.controller controller (event.Opened (length v.links)) v.moment v.left v.left [] shows.alone opens)
+      (unsealed_after v.controller controller (event.Opened (length v.links)) v.moment v.left v.left [] shows.unsealed opens)
       (plain_after v.member after (event.Dialled (length v.links)) v.moment v.left v.left actions shows.plain dialled);
   ticks = λ s v more shows. record {
     client = shows.client;
     member = shows.member;
     controller = shows.controller;
-    alone = shows.alone;
+    unsealed = shows.unsealed;
     plain = shows.plain;
     links = shows.links;
     opened = shows.opened;

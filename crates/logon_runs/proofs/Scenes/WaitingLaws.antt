@@ -12,11 +12,8 @@ use Rattle.outside.specs.declared.event.Event.{Event}
 use Rattle.outside.specs.declared.event.Event.TheVariants as event
 use Rattle.outside.specs.Machine.{Stepped, whole_step}
 use Rattle.domain_controller.specs.State.{State as ControllerState}
-use Rattle.domain_controller.specs.Step.{step_of}
-use Rattle.domain_controller.specs.Trusting.{no_trusting}
-use Rattle.domain_controller.specs.declared.trusting.Trusting.{Trusting}
+use Rattle.domain_controller.specs.TrustStep.{trust_step_of}
 use Rattle.domain_controller.proofs.PlainLaws.{plain_controllers_stay}
-use Rattle.domain_controller.proofs.TrustAloneLaws.{steps_alone}
 use Rattle.logon_client.specs.State.{State as ClientState}
 use Rattle.member_server.specs.Machine.{step_of as member_step_of}
 use Rattle.member_server.specs.SealStep.{SealsNothing, sealing_in}
@@ -165,11 +162,12 @@ oldest_comes s unit later there end oldest some short opened hearer =
       behind = oldest.behind;
     }
 
--- a controller that asks no other asks none after a step
-pub alone_after : (c after : ControllerState) (what : Event) (now : ℕ) (left rest : List (List ℕ)) (actions : List Action) → c.trusting ≡ no_trusting →
-    step_of c what now left ≡ whole_step left rest actions after → after.trusting ≡ no_trusting
-alone_after c after what now left rest actions alone step =
-    sym (ap (λ (stepped : Stepped ControllerState). stepped.state.trusting) (steps_alone.step c what now left alone ∙ step)) ∙ steps_alone.stays c what now left alone
+-- a controller that can't seal can't after a step
+pub unsealed_after : (c after : ControllerState) (what : Event) (now : ℕ) (left rest : List (List ℕ)) (actions : List Action) → c.trusting.sealing ≡ None →
+    trust_step_of c what now left ≡ whole_step left rest actions after → after.trusting.sealing ≡ None
+unsealed_after c after what now left rest actions unsealed step =
+    sym (ap (λ (stepped : Stepped ControllerState). stepped.state.trusting.sealing) (plain_controllers_stay.step c what now left unsealed ∙ step))
+    ∙ plain_controllers_stay.stays c what now left unsealed
 
 -- a member whose channel seals nothing seals nothing after a step
 pub plain_after : (m after : MemberState) (what : Event) (now : ℕ) (left rest : List (List ℕ)) (actions : List Action) → SealsNothing m →
@@ -185,10 +183,10 @@ waiting_comes = record {
   added = added_waits;
   comes = λ s unit later there end waits some short opened hearer. oldest_comes s unit later there end (oldest_waits s.bag unit later waits) some short opened hearer;
   idle = λ s none. ap (λ (f : Option ℕ). onward_by f s) (none_waits s.bag none);
-  controller = λ s at controller after what left actions found alone step.
+  controller = λ s at controller after what left actions found unsealed step.
       ap (λ (c : Option ControllerState). heard_by (controller_step c at what s.moment s.ends s.chances) s) found
       ∙ ap (λ (stepped : Stepped ControllerState). heard_by (controller_done stepped at s.ends s.chances) s)
-      (plain_controllers_stay.step controller what s.moment s.chances.left (ap (λ (t : Trusting). t.sealing) alone) ∙ steps_alone.step controller what s.moment s.chances.left alone ∙ step);
+      (plain_controllers_stay.step controller what s.moment s.chances.left unsealed ∙ step);
   member = λ s at member after what left actions found plain step.
       ap (λ (m : Option MemberState). heard_by (member_step m at what s.moment s.ends s.chances) s) found
       ∙ ap (λ (stepped : Stepped MemberState). heard_by (member_done stepped at s.ends s.chances) s)

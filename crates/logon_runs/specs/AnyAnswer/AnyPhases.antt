@@ -39,6 +39,7 @@ use Rattle.world_moves.specs.Moving.{act, end_of_peer, route_to}
 use Rattle.world_moves.specs.World.{first_ends}
 use Rattle.logon_steps.specs.Answering.{IsInStep, auth_value, pair_of}
 use Rattle.logon_steps.specs.Answers.{HasUnits}
+use Rattle.logon_steps.specs.BesideTrusts.{at_no_trusts}
 use Rattle.logon_steps.specs.Calling.{HasShortCaller}
 use Rattle.logon_steps.specs.ClientSteps.{client_ended}
 use Rattle.logon_steps.specs.ControllerTurns.{reply_bytes, turn_link}
@@ -112,6 +113,8 @@ pub record IsAble (plan : Plan) (p : Arrival) : Type 0 where
   pub knows : (client server : List ℕ) (machine : Account) → account_for p.table (auth_value p.meeting.caller client server) ≡ Some machine →
       knows_in p.table.accounts p.meeting.caller.computer ≡ true
   pub own_secret : p.meeting.how ≡ standing.Nothing → IsOwn plan p → FitsSecret p
+  -- its controller asks no other for a logon
+  pub alone : p.meeting.trusts ≡ at_no_trusts
 
 -- the client's dial reaches its member, and the member's a controller or nobody
 pub record IsHeard (plan : Plan) (p : Arrival) (s : State) : Type 0 where

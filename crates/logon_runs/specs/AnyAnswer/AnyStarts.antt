@@ -13,6 +13,7 @@ use Rattle.world_moves.specs.Ends.{starters_in}
 use Rattle.world_moves.specs.Forms.{HasForms}
 use Rattle.world_moves.specs.Moving.{end_of_peer, route_to, start}
 use Rattle.world_moves.specs.World.{IsPlan, first_ends}
+use Rattle.logon_steps.specs.BesideTrusts.{at_no_trusts}
 use Rattle.logon_steps.specs.ControllerTurns.{controller_at}
 use Rattle.logon_steps.specs.MemberTurns.{plan_with}
 use Rattle.logon_runs.specs.Scenes.Others.{OthersStay}
@@ -47,6 +48,7 @@ coming_from plan s rest client member controller three account machine =
         place = work.place;
         number = work.number;
         controller = controller_at desk.table desk.name desk.computers [];
+        trusts = at_no_trusts;
         links = s.links;
         link = 0;
       };

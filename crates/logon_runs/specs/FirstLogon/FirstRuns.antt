@@ -31,6 +31,7 @@ use Rattle.world_moves.specs.declared.state.State.{State}
 use Rattle.world_moves.specs.Moving.{end_of_peer}
 use Rattle.logon_steps.specs.Answering.{auth_value, pair_of}
 use Rattle.logon_steps.specs.Answers.{AreDraws, HasUnits, auth3_for, drawn_of, terms_for}
+use Rattle.logon_steps.specs.BesideTrusts.{at_no_trusts}
 use Rattle.logon_steps.specs.Calling.{HasShortCaller, HasShortInfo}
 use Rattle.logon_steps.specs.Granting.{cleared, info_told}
 use Rattle.logon_steps.specs.Meeting.{HasShortNames, challenged_talk}
@@ -73,6 +74,8 @@ pub record IsToBeOpened (g : Meeting) (a : ClientAnswer) (client server : List �
       (granting (opens_as g client server) (timestamp_of moment) 0 1 (hidden (opens_as g client server) (sam_for g a table name account moment)))
   pub short : length (name_in (sam_shown (opens_as g client server) (hidden (opens_as g client server) (sam_for g a table name account moment)))) ≤ 32767
   pub number : g.number < 2 ^ 32
+  -- its controller asks no other for a logon
+  pub alone : g.trusts ≡ at_no_trusts
 
 -- a turn: its dial, its bind and the answer, its call and the reply
 abbrev pub go_through_turn : State → State

@@ -26,6 +26,7 @@ use Rattle.world_moves.specs.Forms.{HasForms}
 use Rattle.world_moves.specs.Moving.{end_of_peer}
 use Rattle.world_moves.specs.World.{IsPlan, first_ends, first_world, outcome_of, run, starters_of}
 use Rattle.logon_steps.specs.Answers.{answer_for, drawn_of}
+use Rattle.logon_steps.specs.BesideTrusts.{at_no_trusts}
 use Rattle.logon_steps.specs.ClientSteps.{client_ended}
 use Rattle.logon_steps.specs.Granting.{info_told}
 use Rattle.logon_runs.specs.FirstLogon.FirstLogonRuns.{after_first}
@@ -116,6 +117,7 @@ first_meeting plan client member controller can = record {
   place = 0;
   number = 1;
   controller = first_state can.table can.name;
+  trusts = at_no_trusts;
   links = [];
   link = 0;
 }

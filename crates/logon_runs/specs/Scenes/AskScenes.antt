@@ -36,7 +36,8 @@ use Rattle.world_moves.specs.Moving.{onward}
 use Rattle.logon_steps.specs.Answers.{AreDraws, answer_for, auth3_for, drawn_of, logon_for}
 use Rattle.logon_steps.specs.Asking.{info_at}
 use Rattle.logon_steps.specs.ClientSteps.{client_at, on_link}
-use Rattle.logon_steps.specs.ControllerTurns.{controller_at, reply_bytes, turn_link}
+use Rattle.logon_steps.specs.BesideTrusts.{Keeping, keeping_at, keeping_of}
+use Rattle.logon_steps.specs.ControllerTurns.{reply_bytes, turn_link}
 use Rattle.logon_steps.specs.Meeting.{HasShortNames, bound_for, challenged_talk, flags_agreed}
 use Rattle.logon_steps.specs.MemberAnswers.{granting, let_in, sam_shown}
 use Rattle.logon_steps.specs.MemberLinks.{asked_talk, one_link}
@@ -46,9 +47,13 @@ use Rattle.logon_runs.specs.Scenes.LinkScenes.{FitsGiven, given_after, IsJoined,
 use Rattle.logon_runs.specs.Scenes.Scene.{Shows}
 use Rattle.logon_runs.specs.Scenes.TurnScenes.{IsBetween, TurnScene, dial_scene, turn_scene, unit_back, waiting_scene}
 
+-- what a controller keeps beside those who ask for it at trusted domains
+abbrev pub kept_by : Meeting → AccountTable → List ℕ → Computers → Keeping
+kept_by g table name computers = keeping_of table name computers g.trusts
+
 -- the controller is at rest, with these accounts and that name, and keeps this of computers
 abbrev pub with_controller : Meeting → AccountTable → List ℕ → Computers → Meeting
-with_controller g table name computers = record g { controller = controller_at table name computers [] }
+with_controller g table name computers = record g { controller = keeping_at (kept_by g table name computers) [] }
 
 -- the member's turn for that logon, while the client waits so far on its link
 abbrev pub turn_of : Meeting → ClientPhase → NetworkInfo → Logon → Talk → AccountTable → List ℕ → TurnScene
@@ -66,6 +71,7 @@ turn_of g waits info logon talk table name = record {
   accepted = one_link g.link talk;
   table = table;
   name = name;
+  trusts = g.trusts;
   links = g.links;
   opened = its_link g;
   link = g.link;
@@ -87,6 +93,7 @@ turn_within g waits info logon talk table name how links opened link = record {
   accepted = one_link g.link talk;
   table = table;
   name = name;
+  trusts = g.trusts;
   links = links;
   opened = opened;
   link = link;

@@ -45,6 +45,7 @@ use Rattle.world_moves.specs.declared.state.WaitingDial.{WaitingDial}
 use Rattle.world_moves.specs.Links.{OpenMap}
 use Rattle.world_moves.specs.Moving.{connect, end_of_peer, onward}
 use Rattle.logon_steps.specs.Answers.{AreDraws, answer_for, auth3_for, drawn_of, terms_for}
+use Rattle.logon_steps.specs.BesideTrusts.{AtTrusts}
 use Rattle.logon_steps.specs.ClientSteps.{client_at, client_ended, on_link}
 use Rattle.logon_steps.specs.Meeting.{HasShortNames, ack_for, bound_for, challenged_talk, fresh_talk}
 use Rattle.logon_steps.specs.MemberLinks.{logons_resting, one_link}
@@ -70,7 +71,9 @@ pub record Meeting : Type 0 where
   pub how : Standing
   pub place : ℕ
   pub number : ℕ
+  -- the controller, and those who ask for it at trusted domains
   pub controller : ControllerState
+  pub trusts : AtTrusts
   pub links : List Route
   pub link : ℕ
 

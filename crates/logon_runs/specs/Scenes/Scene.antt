@@ -1,7 +1,7 @@
 -- What is seen of a world while one logon goes on: a client, a member and a controller, what waits,
 -- and what is open (this project's own choice). Nothing else of the world has to be known to say
 -- what comes of a move.
-use Rattle.std.specs.Prelude.{ℕ, ◌≡◌, ◌≤◌, ◌<◌, List, [], ◌∷◌, ◌++◌, length, Some, slice_get}
+use Rattle.std.specs.Prelude.{ℕ, ◌≡◌, ◌≤◌, ◌<◌, List, [], ◌∷◌, ◌++◌, length, None, Some, slice_get}
 use Rattle.std.specs.List.{AllByRecursion}
 use Rattle.wire_base.specs.Maps.{lookup, same_number}
 use Rattle.outside.specs.declared.action.Action.{Action}
@@ -9,8 +9,7 @@ use Rattle.outside.specs.declared.action.Action.TheVariants as action
 use Rattle.outside.specs.declared.event.Event.TheVariants as event
 use Rattle.outside.specs.Machine.{whole_step}
 use Rattle.domain_controller.specs.State.{State as ControllerState}
-use Rattle.domain_controller.specs.Step.{step_of as controller_step_of}
-use Rattle.domain_controller.specs.Trusting.{no_trusting}
+use Rattle.domain_controller.specs.TrustStep.{trust_step_of as controller_step_of}
 use Rattle.logon_client.specs.State.{State as ClientState}
 use Rattle.logon_client.specs.Machine.{step_of as client_step_of}
 use Rattle.member_server.specs.SealStep.{SealsNothing}
@@ -51,9 +50,8 @@ pub record Shows (s : State) (v : Scene) : Type 0 where
   pub client : slice_get s.ends.clients v.at_client ≡ Some v.client
   pub member : slice_get s.ends.members v.at_member ≡ Some v.member
   pub controller : slice_get s.ends.controllers v.at_controller ≡ Some v.controller
-  -- which asks no controller of a trusted domain
-  pub alone : v.controller.trusting ≡ no_trusting
-  -- the member's channel seals nothing
+  -- neither it nor the member's channel seals anything
+  pub unsealed : v.controller.trusting.sealing ≡ None
   pub plain : SealsNothing v.member
   pub links : s.links ≡ v.links
   pub opened : s.open_links ≡ v.opened

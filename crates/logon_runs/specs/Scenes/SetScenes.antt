@@ -29,7 +29,7 @@ use Rattle.channel_client.specs.declared.state.Step.TheVariants as step
 use Rattle.channel_client.specs.Machine.{after, change_call, judge_set, logon_call, offered_flags, server_credential}
 use Rattle.controller_calls.specs.declared.state.Computers.{Computers}
 use Rattle.domain_controller.specs.State.{State as ControllerState}
-use Rattle.domain_controller.specs.Step.{step_of as controller_step_of}
+use Rattle.domain_controller.specs.TrustStep.{trust_step_of as controller_step_of}
 use Rattle.member_server.specs.State.{State as MemberState}
 use Rattle.member_server.specs.Machine.{step_of as member_step_of}
 use Rattle.member_server.specs.Turns.{timestamp_of}
@@ -38,12 +38,13 @@ use Rattle.world_moves.specs.declared.links.EndId.TheVariants.{Controller, Membe
 use Rattle.world_moves.specs.declared.state.State.{State}
 use Rattle.world_moves.specs.Moving.{onward}
 use Rattle.logon_steps.specs.Asking.{info_at}
-use Rattle.logon_steps.specs.ControllerTurns.{controller_at, reply_bytes, turn_link}
+use Rattle.logon_steps.specs.BesideTrusts.{keeping_at}
+use Rattle.logon_steps.specs.ControllerTurns.{reply_bytes, turn_link}
 use Rattle.logon_steps.specs.SetTurns.{IsSetTurn, set_reply_bytes, set_request}
 use Rattle.logon_steps.specs.Turning.{IsTurnReply, turn_ack}
 use Rattle.logon_runs.specs.Scenes.Scene.{HasFirst, IsNoClose, Scene, Shows, with_actions}
 use Rattle.logon_runs.specs.Scenes.Turnings.{ClosesTo, shut_in}
-use Rattle.logon_runs.specs.Scenes.TurnScenes.{IsBetween, TurnScene, dial_scene, turn_scene, unit_back, unit_there, waiting_scene, with_accounts, with_secrets}
+use Rattle.logon_runs.specs.Scenes.TurnScenes.{IsBetween, TurnScene, dial_scene, kept_in, turn_scene, unit_back, unit_there, waiting_scene, with_accounts, with_secrets}
 
 pub record SetsAreSeen : Type 0 where
   -- a member keeps a text, closes the link of its turn, and then does other things
@@ -84,14 +85,14 @@ pub record SetsAreSeen : Type 0 where
   -- others then
   pub sets : (s : State) (t : TurnScene) (next number : ℕ) (what : Step) (c : SetCall) (r : SetReply) (how : Judged) (text : List ℕ) (computers later : Computers) (accounts : AccountTable)
       (left rest : List (List ℕ)) (moment : ℕ) → IsBetween t → IsSetTurn c →
-      controller_step_of (controller_at t.table t.name computers (turn_link t.link)) (event.Bytes t.link (bytes_of_call (set_request number c) 5840)) moment left
-      ≡ whole_step left rest (action.Keep text ∷ action.Judged how ∷ action.Send t.link (set_reply_bytes number r) ∷ []) (controller_at accounts t.name later (turn_link t.link)) →
+      controller_step_of (keeping_at (kept_in t computers) (turn_link t.link)) (event.Bytes t.link (bytes_of_call (set_request number c) 5840)) moment left
+      ≡ whole_step left rest (action.Keep text ∷ action.Judged how ∷ action.Send t.link (set_reply_bytes number r) ∷ []) (keeping_at (kept_in (with_accounts accounts t) later) (turn_link t.link)) →
       Shows s (turn_scene t next number what computers (turn_link t.link) (unit_there t (bytes_of_call (set_request number c) 5840) ∷ []) left moment) →
       Shows (onward s).state (turn_scene (with_accounts accounts t) next number what later (turn_link t.link) (unit_back t (set_reply_bytes number r) ∷ []) rest moment)
   pub refuses : (s : State) (t : TurnScene) (next number : ℕ) (what : Step) (c : SetCall) (r : SetReply) (how : Judged) (computers later : Computers) (accounts : AccountTable)
       (left rest : List (List ℕ)) (moment : ℕ) → IsBetween t → IsSetTurn c →
-      controller_step_of (controller_at t.table t.name computers (turn_link t.link)) (event.Bytes t.link (bytes_of_call (set_request number c) 5840)) moment left
-      ≡ whole_step left rest (action.Judged how ∷ action.Send t.link (set_reply_bytes number r) ∷ []) (controller_at accounts t.name later (turn_link t.link)) →
+      controller_step_of (keeping_at (kept_in t computers) (turn_link t.link)) (event.Bytes t.link (bytes_of_call (set_request number c) 5840)) moment left
+      ≡ whole_step left rest (action.Judged how ∷ action.Send t.link (set_reply_bytes number r) ∷ []) (keeping_at (kept_in (with_accounts accounts t) later) (turn_link t.link)) →
       Shows s (turn_scene t next number what computers (turn_link t.link) (unit_there t (bytes_of_call (set_request number c) 5840) ∷ []) left moment) →
       Shows (onward s).state (turn_scene (with_accounts accounts t) next number what later (turn_link t.link) (unit_back t (set_reply_bytes number r) ∷ []) rest moment)
   -- the reply takes it: the next secret is the one secret then, and the logon's own turn is dialled

@@ -28,7 +28,8 @@ use Rattle.channel_client.specs.declared.state.Step.{Step}
 use Rattle.channel_client.specs.declared.state.Step.TheVariants as step
 use Rattle.channel_client.specs.Machine.{after, auth_call, logon_call, offered_flags, question_of, server_credential}
 use Rattle.domain_controller.specs.Hearing.{first_talk}
-use Rattle.domain_controller.specs.Step.{LinkMap, step_of as controller_step_of}
+use Rattle.domain_controller.specs.Step.{LinkMap}
+use Rattle.domain_controller.specs.TrustStep.{trust_step_of as controller_step_of}
 use Rattle.controller_calls.specs.declared.state.Computers.{Computers}
 use Rattle.logon_client.specs.State.{State as ClientState}
 use Rattle.member_server.specs.declared.plan.MemberPlan.{MemberPlan}
@@ -43,7 +44,8 @@ use Rattle.world_moves.specs.declared.links.Route.TheVariants.{ToController}
 use Rattle.world_moves.specs.declared.state.State.{State}
 use Rattle.world_moves.specs.Links.{OpenMap, accepted, answered}
 use Rattle.world_moves.specs.Moving.{connect, end_of_peer, onward}
-use Rattle.logon_steps.specs.ControllerTurns.{controller_at, one_link, reply_bytes, turn_link}
+use Rattle.logon_steps.specs.BesideTrusts.{AtTrusts, Keeping, keeping_at, keeping_of}
+use Rattle.logon_steps.specs.ControllerTurns.{one_link, reply_bytes, turn_link}
 use Rattle.secret_change.specs.Secrets.{SecretsState}
 use Rattle.logon_steps.specs.MemberTurns.{IsNew, bind_waits, logons_keeping, member_at, on_turn, plan_with}
 use Rattle.logon_steps.specs.Turning.{IsTurnCall, IsTurnReply, turn_ack, turn_request}
@@ -63,13 +65,18 @@ pub record TurnScene : Type 0 where
   pub place : ℕ
   pub asked : List (ℕ × Logon)
   pub accepted : List (ℕ × LinkState Talk)
-  -- the controller's accounts and name
+  -- the controller's accounts and name, and those who ask for it at trusted domains
   pub table : AccountTable
   pub name : List ℕ
+  pub trusts : AtTrusts
   -- all links, those that are open, and the turn's own
   pub links : List Route
   pub opened : OpenMap
   pub link : ℕ
+
+-- what the controller keeps, with that of computers
+abbrev pub kept_in : TurnScene → Computers → Keeping
+kept_in t computers = keeping_of t.table t.name computers t.trusts
 
 -- the link of the turn is open between both
 pub record IsBetween (t : TurnScene) : Type 0 where
@@ -92,7 +99,7 @@ turn_scene t next number what computers there units left moment = record {
   at_controller = t.at_controller;
   client = t.client;
   member = member_at (logons_keeping t.plan t.caller t.how t.info t.place next number what t.asked) t.accepted (on_turn t.link);
-  controller = controller_at t.table t.name computers there;
+  controller = keeping_at (kept_in t computers) there;
   links = t.links;
   opened = t.opened;
   units = units;
@@ -109,7 +116,7 @@ waiting_scene t opened how next number what computers units left moment = record
   at_controller = t.at_controller;
   client = t.client;
   member = member_at (logons_keeping t.plan t.caller how t.info t.place next number what t.asked) t.accepted (bind_waits number);
-  controller = controller_at t.table t.name computers [];
+  controller = keeping_at (kept_in t computers) [];
   links = t.links;
   opened = opened;
   units = units;
@@ -181,13 +188,13 @@ pub record TurnsAreSeen : Type 0 where
   -- the controller answers it, telling nothing or how it judged, and keeps its accounts or others then
   pub answers : (s : State) (t : TurnScene) (next number : ℕ) (what : Step) (c : Call) (r : Reply) (computers later : Computers) (left rest : List (List ℕ)) (moment : ℕ) →
       IsBetween t → IsTurnCall c →
-      controller_step_of (controller_at t.table t.name computers (turn_link t.link)) (event.Bytes t.link (bytes_of_call (turn_request number c) 5840)) moment left
-      ≡ whole_step left rest (action.Send t.link (reply_bytes number r) ∷ []) (controller_at t.table t.name later (turn_link t.link)) →
+      controller_step_of (keeping_at (kept_in t computers) (turn_link t.link)) (event.Bytes t.link (bytes_of_call (turn_request number c) 5840)) moment left
+      ≡ whole_step left rest (action.Send t.link (reply_bytes number r) ∷ []) (keeping_at (kept_in t later) (turn_link t.link)) →
       Shows s (turn_scene t next number what computers (turn_link t.link) (unit_there t (bytes_of_call (turn_request number c) 5840) ∷ []) left moment) →
       Shows (onward s).state (turn_scene t next number what later (turn_link t.link) (unit_back t (reply_bytes number r) ∷ []) rest moment)
   pub judges : (s : State) (t : TurnScene) (next number : ℕ) (what : Step) (c : Call) (r : Reply) (how : Judged) (computers later : Computers) (accounts : AccountTable) (left rest : List (List ℕ))
       (moment : ℕ) → IsBetween t → IsTurnCall c →
-      controller_step_of (controller_at t.table t.name computers (turn_link t.link)) (event.Bytes t.link (bytes_of_call (turn_request number c) 5840)) moment left
-      ≡ whole_step left rest (action.Judged how ∷ action.Send t.link (reply_bytes number r) ∷ []) (controller_at accounts t.name later (turn_link t.link)) →
+      controller_step_of (keeping_at (kept_in t computers) (turn_link t.link)) (event.Bytes t.link (bytes_of_call (turn_request number c) 5840)) moment left
+      ≡ whole_step left rest (action.Judged how ∷ action.Send t.link (reply_bytes number r) ∷ []) (keeping_at (kept_in (with_accounts accounts t) later) (turn_link t.link)) →
       Shows s (turn_scene t next number what computers (turn_link t.link) (unit_there t (bytes_of_call (turn_request number c) 5840) ∷ []) left moment) →
       Shows (onward s).state (turn_scene (with_accounts accounts t) next number what later (turn_link t.link) (unit_back t (reply_bytes number r) ∷ []) rest moment)

@@ -9,7 +9,7 @@ use Rattle.outside.specs.declared.action.CloseCause.{CloseCause}
 use Rattle.outside.specs.declared.event.Event.TheVariants as event
 use Rattle.outside.specs.Machine.{whole_step}
 use Rattle.domain_controller.specs.State.{State as ControllerState}
-use Rattle.domain_controller.specs.Step.{step_of as controller_step_of}
+use Rattle.domain_controller.specs.TrustStep.{trust_step_of as controller_step_of}
 use Rattle.logon_client.specs.State.{State as ClientState}
 use Rattle.logon_client.specs.Machine.{step_of as client_step_of}
 use Rattle.member_server.specs.State.{State as MemberState}

@@ -9,8 +9,7 @@ use Rattle.outside.specs.declared.event.Event.TheVariants as event
 use Rattle.outside.specs.Drawing.{draws_between}
 use Rattle.outside.specs.Machine.{whole_step}
 use Rattle.domain_controller.specs.State.{State as ControllerState}
-use Rattle.domain_controller.specs.Step.{step_of as controller_step_of}
-use Rattle.domain_controller.specs.Trusting.{no_trusting}
+use Rattle.domain_controller.specs.TrustStep.{trust_step_of as controller_step_of}
 use Rattle.logon_client.specs.State.{State as ClientState}
 use Rattle.logon_client.specs.Machine.{step_of as client_step_of}
 use Rattle.member_server.specs.SealStep.{SealsNothing}
@@ -83,9 +82,9 @@ pub record WaitingComes : Type 0 where
   pub comes : (s : State) (unit : BagUnit) (later : List BagUnit) (there : OpenLink) (end : EndId) → waiting s.bag ≡ unit ∷ later → 0 < length unit.bytes →
       length unit.bytes ≤ 65536 → lookup same_number unit.link s.open_links ≡ Some there → hearer_on unit.back there ≡ Some end → Comes s unit later end
   pub idle : (s : State) → waiting s.bag ≡ [] → onward s ≡ nothing_done s
-  -- what an end makes of what it hears, where a controller asks no other, and a member's channel seals nothing
+  -- what an end makes of what it hears, where neither a controller nor a member's channel can seal
   pub controller : (s : State) (at : ℕ) (controller after : ControllerState) (what : Event) (left : List (List ℕ)) (actions : List Action) →
-      slice_get s.ends.controllers at ≡ Some controller → controller.trusting ≡ no_trusting →
+      slice_get s.ends.controllers at ≡ Some controller → controller.trusting.sealing ≡ None →
       controller_step_of controller what s.moment s.chances.left ≡ whole_step s.chances.left left actions after →
       hear (Controller at) what s ≡ after_hearing (with_controller_at at after s.ends) left actions s
   pub member : (s : State) (at : ℕ) (member after : MemberState) (what : Event) (left : List (List ℕ)) (actions : List Action) →
