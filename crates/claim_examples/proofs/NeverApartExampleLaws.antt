@@ -22,7 +22,7 @@ use Rattle.member_server.specs.Machine.{caller_of}
 use Rattle.member_server.specs.State.{State as MemberState}
 use Rattle.member_server.specs.declared.plan.MemberPlan.{MemberPlan}
 use Rattle.member_server.specs.declared.state.Running.{Running as MemberRunning}
-use Rattle.step_notes.specs.Records.{Book, Judging, OfMember, RequesterId}
+use Rattle.step_notes.specs.Records.{Book, Judging, OfMember, OfTrust, RequesterId}
 use Rattle.logon_client.specs.Plans.{CanLogOn}
 use Rattle.logon_runs.specs.FirstLogon.ExampleLogon.{ann_plan, corp, file1, file1_plan}
 use Rattle.world_moves.specs.declared.links.EndId.TheVariants.{Controller}
@@ -121,6 +121,7 @@ same_member one other is = cc
 none_else : (who : RequesterId) (name : List ℕ) → who ≢ OfMember 0 → computer_of change_plan who ≡ Some name → SameName name (codes "FILE1") → ⊥
 none_else (OfMember zero) name other is same = other refl
 none_else (OfMember (suc k)) name other is same = no_some name is
+none_else (OfTrust controller trust) name other is same = no_some name is
 
 abbrev begins_alike : BeginsAlike change_plan 0
 begins_alike = record {
@@ -159,6 +160,7 @@ none_in_any : (account : Account) (trusts : List Trust) (sealed : Bool) (who : R
     SameName name (codes "FILE1") → ⊥
 none_in_any account trusts sealed (OfMember zero) name other is same = other refl
 none_in_any account trusts sealed (OfMember (suc k)) name other is same = no_some name is
+none_in_any account trusts sealed (OfTrust controller trust) name other is same = no_some name is
 
 -- whatever else stands in the account, the table and the member
 any_begins : (account : Account) (trusts : List Trust) (sealed : Bool) → BeginsAlike (any_plan account trusts sealed) 0
@@ -180,6 +182,7 @@ any_begins account trusts sealed = record {
 none_with_letters : (who : RequesterId) (name : List ℕ) → who ≢ OfMember 0 → computer_of letters_plan who ≡ Some name → SameName name (codes "file1") → ⊥
 none_with_letters (OfMember zero) name other is same = other refl
 none_with_letters (OfMember (suc k)) name other is same = no_some name is
+none_with_letters (OfTrust controller trust) name other is same = no_some name is
 
 letters_begin : BeginsAlike letters_plan 0
 letters_begin = record {
@@ -201,6 +204,7 @@ none_second : (who : RequesterId) (name : List ℕ) → who ≢ OfMember 1 → c
 none_second (OfMember zero) name other is same = names_apart (subst (λ (one : List ℕ). SameName one (codes "FILE1")) (sym (some_is (codes "FILE2") name is)) same)
 none_second (OfMember (suc zero)) name other is same = other refl
 none_second (OfMember (suc (suc k))) name other is same = no_some name is
+none_second (OfTrust controller trust) name other is same = no_some name is
 
 abbrev second_begins : BeginsAlike two_plan 1
 second_begins = record {
@@ -222,6 +226,7 @@ none_crossed : (who : RequesterId) (name : List ℕ) → who ≢ OfMember 1 → 
 none_crossed (OfMember zero) name other is same = names_apart (subst (λ (one : List ℕ). SameName one (codes "FILE1")) (sym (some_is (codes "FILE2") name is)) same)
 none_crossed (OfMember (suc zero)) name other is same = other refl
 none_crossed (OfMember (suc (suc k))) name other is same = no_some name is
+none_crossed (OfTrust controller trust) name other is same = no_some name is
 
 crossed_begins : BeginsAlike crossed_plan 1
 crossed_begins = record {
@@ -645,6 +650,7 @@ alone_named : (plan : Plan) (own : MemberPlan) → plan.members ≡ own ∷ [] �
 alone_named plan own is (OfMember zero) name other named = other refl
 alone_named plan own is (OfMember (suc k)) name other named =
     no_some name (sym (ap (λ (members : List MemberPlan). option_map (λ (one : MemberPlan). one.computer) (slice_get members (suc k))) is) ∙ named)
+alone_named plan own is (OfTrust controller trust) name other named = no_some name named
 
 pub of_proved_run : OfProvedRun
 of_proved_run = record {

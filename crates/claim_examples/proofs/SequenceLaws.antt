@@ -13,7 +13,7 @@ use Rattle.channel_client.specs.declared.state.Pending.{Pending}
 use Rattle.domain_controller.specs.State.{State as ControllerState}
 use Rattle.domain_controller.specs.declared.state.Running.{Running as ControllerRunning}
 use Rattle.channel_events.specs.Seeds.{channel_seed}
-use Rattle.step_notes.specs.Records.{Book, InUnit, OfMember, Outside, blank, RequesterId}
+use Rattle.step_notes.specs.Records.{Book, InUnit, OfMember, OfTrust, Outside, blank, RequesterId}
 use Rattle.domain_world.specs.Claims.SharedSequences.{IsBeforeTurn, ChannelIsKept, SequencesAreShared, ChannelStands, any_foreign, timestamps_on}
 use Rattle.domain_world.specs.Past.{controller_asked, requester_at}
 use Rattle.claim_examples.specs.ClaimExamples.{OfSequences, keeping_controller, keeping_running, one_turn, small_channel, open_running, passed_from, run_open, seed_after_one, seed_after_two, small_computers, small_name, small_seed, small_turn, turn_out, two_turns, world_open}
@@ -36,6 +36,8 @@ one_asker : (turn : Option Pending) (seed other : List ℕ) (who : RequesterId) 
     (who ≡ OfMember 0) × ((open_running turn seed).logons.channel ≡ requester)
 one_asker turn seed other (OfMember zero) requester at = (refl, let one : Some (open_running turn seed).logons.channel ≡ Some requester = at in cc)
 one_asker turn seed other (OfMember (suc member)) requester at = absurd (let never : None ≡ Some requester = at in cc)
+one_asker turn seed other (OfTrust zero trust) requester at = absurd (let never : None ≡ Some requester = at in cc)
+one_asker turn seed other (OfTrust (suc controller) trust) requester at = absurd (let never : None ≡ Some requester = at in cc)
 
 -- the channel that stands is this one, and it is the member's
 the_channel : (turn : Option Pending) (seed other : List ℕ) (who : RequesterId) (channel : ChannelIdentity) (o : SecureChannelState) → (stands : ChannelStands (world_open turn seed other).state who channel o) →

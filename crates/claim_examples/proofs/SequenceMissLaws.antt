@@ -20,7 +20,7 @@ use Rattle.wire_base.specs.Lists.{OneOf}
 use Rattle.channel_events.specs.Marks.{Calling, Plain, ReplyTo}
 use Rattle.wire_base.proofs.ListLaws.{got_nothing, one_weaker, some_is}
 use Rattle.step_notes.specs.ControllerNotes.{has_passed}
-use Rattle.step_notes.specs.Records.{Book, ChannelTurn, InUnit, Judging, OfMember, Sent, blank, RequesterId}
+use Rattle.step_notes.specs.Records.{Book, ChannelTurn, InUnit, Judging, OfMember, OfTrust, Sent, blank, RequesterId}
 use Rattle.world_moves.specs.declared.links.EndId.{EndId}
 use Rattle.world_moves.specs.declared.links.EndId.TheVariants.{Controller, Member, Client}
 use Rattle.world_moves.specs.declared.state.State.{State}
@@ -51,6 +51,8 @@ one_asker : (book : Book) (turn : Option Pending) (o : SecureChannelState) (name
     requester_at (run_by book turn o name c).world.state who ≡ Some requester → (who ≡ OfMember 0) × ((running_on turn o).logons.channel ≡ requester)
 one_asker book turn o name c (OfMember zero) requester at = (refl, let one : Some (running_on turn o).logons.channel ≡ Some requester = at in cc)
 one_asker book turn o name c (OfMember (suc member)) requester at = absurd (let never : None ≡ Some requester = at in cc)
+one_asker book turn o name c (OfTrust zero trust) requester at = absurd (let never : None ≡ Some requester = at in cc)
+one_asker book turn o name c (OfTrust (suc controller) trust) requester at = absurd (let never : None ≡ Some requester = at in cc)
 
 module _ (book : Book) (turn : Option Pending) (o : SecureChannelState) (name : List ℕ) (c : SecureChannelState) where
   -- the channel that stands at the member is this one

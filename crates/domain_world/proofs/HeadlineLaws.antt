@@ -53,7 +53,7 @@ use Rattle.domain_world.proofs.Calls.AskerKindLaws.{askers_name}
 use Rattle.domain_world.proofs.Calls.MarkWayLaws.{marks_have_their_way}
 use Rattle.domain_world.proofs.Sequences.OneTurnLaws.{one_turn}
 use Rattle.domain_world.proofs.Sequences.Own.OwnEndLaws.{turns_are_called}
-use Rattle.domain_world.proofs.Sequences.Own.OwnRunLaws.{sequences_own}
+use Rattle.domain_world.proofs.Sequences.Own.TrustOwnLaws.{sequences_own}
 use Rattle.domain_world.proofs.Sequences.ReplyCallLaws.{replies_answer}
 use Rattle.domain_world.proofs.Sequences.SharedRunLaws.{sequences_shared}
 use Rattle.domain_world.proofs.Unforwarded.CarryLaws.{carries_over}

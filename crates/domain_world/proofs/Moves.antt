@@ -3,6 +3,7 @@ pub mod AcceptedLinkLaws
 pub mod ComingLaws
 pub mod DrawnRunLaws
 pub mod EvenLaws
+pub mod FreshTrustLaws
 pub mod FrontLaws
 pub mod LeftLaws
 pub mod MarkNumberLaws
@@ -11,6 +12,7 @@ pub mod MarkedLaws
 pub mod MemberPlanLaws
 pub mod NewUnitLaws
 pub mod NoBytesLaws
+pub mod NoTrustLaws
 pub mod OpenMadeLaws
 pub mod PlacedLaws
 pub mod PlainFormLaws

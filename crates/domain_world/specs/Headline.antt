@@ -101,9 +101,9 @@ pub record Proved (plan : Plan) (moves : List Move) : Type 0 where
   pub keys : IsPlainPlan plan → IsJudgedAlone plan moves → IsSchedule plan moves → IsClear (past plan moves).book → KeysAgree (past plan moves)
   pub counts : IsPlainPlan plan → IsJudgedAlone plan moves → IsSchedule plan moves → IsClear (past plan moves).book → EachCallRaisesOnce (past plan moves)
   pub once : IsPlainPlan plan → IsJudgedAlone plan moves → IsSchedule plan moves → IsClear (past plan moves).book → ShortResponsesLetInOnce (past plan moves)
-  -- at most one turn is out at a member, and at a controller over all its trusts; the seed of a member's channel is
-  -- moved by its turns. The ends of a channel share its sequence, and the calls on it are those of its turns, of which
-  -- each that ended passed
+  -- at most one turn is out at a member, and at a controller over all its trusts; the seed of the channel of whoever
+  -- asks, a member or a controller for a trust, is moved by its turns. The ends of a channel share its sequence, and
+  -- the calls on it are those of its turns, of which each that ended passed
   pub one_turn : IsPlainPlan plan → OneTurnIsOut (past plan moves)
   pub own : IsPlainPlan plan → SequencesAreOwn (past plan moves)
   pub sequences : IsPlainPlan plan → IsJudgedAlone plan moves → IsSchedule plan moves → IsClear (past plan moves).book → SequencesAreShared (past plan moves)

@@ -10,6 +10,8 @@ use Rattle.end_links.specs.Serving.{ServedUnit}
 use Rattle.channel_client.specs.State.{Requester}
 use Rattle.domain_controller.specs.State.{State as ControllerState}
 use Rattle.domain_controller.specs.Trusting.{same_place}
+use Rattle.domain_controller.specs.declared.state.Running.{Running as ControllerRunning}
+use Rattle.domain_controller.specs.declared.trusting.Trusting.{Trusting}
 use Rattle.logon_client.specs.State.{State as ClientState}
 use Rattle.member_server.specs.State.{State as MemberState}
 use Rattle.member_server.specs.declared.plan.MemberPlan.{MemberPlan}
@@ -22,8 +24,8 @@ use Rattle.step_notes.specs.ClientNotes.{made_note, units_of_client}
 use Rattle.step_notes.specs.ControllerNotes.{Answered, Where, reply_mark}
 use Rattle.step_notes.specs.Judged.{passed_channel}
 use Rattle.step_notes.specs.Marking.{answered_marks, clashes, turn_marks}
-use Rattle.step_notes.specs.MemberNotes.{LinkAt, TurnNote, challenge_note, link_of_place, link_units, message_note, taken_link, turn_in, turn_note, turn_units}
-use Rattle.step_notes.specs.Records.{Book, CallTaken, ChannelAccepted, ChannelTurn, Forward, InUnit, JudgementTold, Judging, MessageTaken, OfMember, OutcomeTold, Outside, RequesterId, Sent, Source, blank, unit_in}
+use Rattle.step_notes.specs.MemberNotes.{LinkAt, TurnNote, challenge_note, link_of_place, link_units, message_note, taken_link, turn_if, turn_in, turn_note, turn_units}
+use Rattle.step_notes.specs.Records.{Book, CallTaken, ChannelAccepted, ChannelTurn, Forward, InUnit, JudgementTold, Judging, MessageTaken, OfMember, OfTrust, OutcomeTold, Outside, RequesterId, Sent, Source, blank, unit_in}
 use Rattle.step_notes.specs.TrustNotes.{asking_note, asking_units, calls_handed, forwards_at, places_handed, trust_answers_of}
 use Rattle.world_moves.specs.declared.bag.BagUnit.{BagUnit}
 use Rattle.world_moves.specs.declared.links.EndId.{EndId}
@@ -254,9 +256,21 @@ controller_of_plan (Some plan) ends = controller_number (end_of_peer plan.contro
 abbrev pub controller_of : ℕ → State → ℕ
 controller_of member s = controller_of_plan (slice_get s.member_plans member) s.ends
 
+-- the number of the controller at the address of a trust; where the trust names none, a number that none has
+abbrev pub controller_of_trust : Option Trust → EndStates → ℕ
+controller_of_trust None ends = length ends.controllers
+controller_of_trust (Some trust) ends = controller_number (end_of_peer trust.address ends) (length ends.controllers)
+
+-- the trust of that number at a controller, in the order of its table
+abbrev pub trust_in : ℕ → Option ControllerState → Option Trust
+trust_in trust None = None
+trust_in trust (Some c) = slice_get c.table.trusts trust
+
 -- the number of the controller with which the channels of who asks are
 abbrev pub controller_asked : RequesterId → State → ℕ
 controller_asked (OfMember member) s = controller_of member s
+controller_asked (OfTrust controller trust) s =
+    controller_of_trust (trust_in trust (slice_get s.ends.controllers controller)) s.ends
 
 -- ---- bytes come at an end
 
@@ -288,11 +302,7 @@ abbrev pub note_answers : List Answered → Delivery → State → State → Boo
 note_answers answers w s after b =
     with_marks w.at w.link true (drop (length s.bag) after.bag) (answered_marks answers) (note_calls answers w s after b)
 
--- the number of the controller that it asks in its turn: that of the trust's address
-abbrev pub controller_of_trust : Option Trust → EndStates → ℕ
-controller_of_trust None ends = length ends.controllers
-controller_of_trust (Some trust) ends = controller_number (end_of_peer trust.address ends) (length ends.controllers)
-
+-- the number of the controller that a controller asks in its turn
 abbrev pub asked_in_turn : ControllerState → State → ℕ
 asked_in_turn c s = controller_of_trust (slice_get c.table.trusts c.trusting.turn_of) s.ends
 
@@ -309,6 +319,10 @@ heard_marks false controller c w piece s after forwards units =
 heard_marks true controller c w piece s after forwards units =
     asking_marks w.link (λ unit. beside_mark forwards after unit) units (turn_marks (asking_notes c w piece s))
 
+-- who asks in the turn of that controller: it does, for the trust for which its turn is out
+abbrev pub asker_of : ℕ → ControllerState → RequesterId
+asker_of controller c = OfTrust controller c.trusting.turn_of
+
 abbrev pub with_sent : ℕ → List Mark → Book → Book
 with_sent at marks b = record b { sent = b.sent ++ map (sent_at at) marks }
 
@@ -318,7 +332,8 @@ note_controller (Some c) controller w piece s after b =
     with_sent w.at
     (heard_marks (is_on w.link c.trusting.dialling) controller c w piece s after b.forwards (drop (length s.bag) after.bag))
     (with_clash (any_turn_clash (asking_notes c w piece s) (unit_in w.source) b.sent)
-    (with_forwards (forwards_of controller c w piece s) (note_calls (answers_of controller c w piece s) w s after b)))
+    (with_taken (asker_of controller c) w.at (unit_in w.source) (asking_notes c w piece s)
+    (with_forwards (forwards_of controller c w piece s) (note_calls (answers_of controller c w piece s) w s after b))))
 
 abbrev pub at_member : ℕ → Delivery → State → LinkAt
 at_member member w s =
@@ -436,14 +451,36 @@ abbrev pub requester_in : Option MemberRunning → Option Requester
 requester_in None = None
 requester_in (Some running) = Some running.logons.channel
 
+-- the state of who asks for a trust, by the running state of its controller and what that keeps of trusts
+abbrev pub trust_asker_on : Option ControllerRunning → ℕ → Trusting → Option Requester
+trust_asker_on None trust t = None
+trust_asker_on (Some running) trust t = slice_get t.queues.requesters trust
+
+-- the state of who asks for a trust at that controller: none where there is no such controller, or it has stopped
+abbrev pub trust_asker : Option ControllerState → ℕ → Option Requester
+trust_asker None trust = None
+trust_asker (Some c) trust = trust_asker_on c.running trust c.trusting
+
 -- the state of who asks, as it stands at its end: none where that isn't there, or has stopped
 abbrev pub requester_at : State → RequesterId → Option Requester
 requester_at s (OfMember member) = requester_in (running_in (slice_get s.ends.members member))
+requester_at s (OfTrust controller trust) = trust_asker (slice_get s.ends.controllers controller) trust
 
--- a member dials exactly where a turn starts, which is out after the move
+-- the turn on the channel of who asks, whose bind waits, if one does
+abbrev pub turn_at : RequesterId → State → List ChannelTurn
+turn_at who s = turn_if (controller_asked who s) who (requester_at s who)
+
+-- the turn of that controller, for the trust for which it is out
+abbrev pub turn_for_trust : ℕ → Option ControllerState → State → List ChannelTurn
+turn_for_trust controller None after = []
+turn_for_trust controller (Some c) after = turn_at (asker_of controller c) after
+
+-- a member dials, and a controller, exactly where a turn starts, which is out after the move
 abbrev pub turns_by : EndId → Action → State → List ChannelTurn
 turns_by (Member member) (action.Dial peer) after =
     turn_in (controller_of member after) member (running_in (slice_get after.ends.members member))
+turns_by (Controller controller) (action.Dial peer) after =
+    turn_for_trust controller (slice_get after.ends.controllers controller) after
 turns_by _ what after = []
 
 abbrev pub turns_in : Given → State → List ChannelTurn

@@ -206,6 +206,11 @@ turn_by _ channel who = []
 abbrev pub turn_of : ℕ → RequesterId → Requester → List ChannelTurn
 turn_of controller who s = turn_by (step_in s.turn) (stands_in controller s.caller.computer s.standing) who
 
+-- the turn of a requester whose bind waits; none where there is no such requester
+abbrev pub turn_if : ℕ → RequesterId → Option Requester → List ChannelTurn
+turn_if controller who None = []
+turn_if controller who (Some s) = turn_of controller who s
+
 -- of a member
 abbrev pub turn_in : ℕ → ℕ → Option Running → List ChannelTurn
 turn_in controller member None = []

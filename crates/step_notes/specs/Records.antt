@@ -1,7 +1,7 @@
 -- What a run leaves behind, as plain records: what each unit was made for, which calls were judged, which messages were
 -- taken, what was told. Nothing here says how an end works. Moves, draws, links and units of the bag are numbered from
 -- 0.
-use Rattle.std.specs.Prelude.{ℕ, ◌==◌, Bool, false, List, [], Option, Some, None}
+use Rattle.std.specs.Prelude.{ℕ, ◌==◌, ◌&&◌, Bool, false, List, [], Option, Some, None}
 use Rattle.wire_base.specs.declared.authenticator.Authenticator.{Authenticator}
 use Rattle.authenticators.specs.Channels.{ChannelIdentity}
 use Rattle.authenticators.specs.SecureChannels.{SecureChannelState}
@@ -127,13 +127,17 @@ pub record OutcomeTold : Type 0 where
   pub link : ℕ
   pub outcome : Outcome
 
--- Who asks on secure channels, as far as it is written down: a member, by its number. What a controller asks of another
--- one isn't.
+-- Who asks on secure channels: a member, by its number; or a controller, by its number, that asks the controller of a
+-- domain that it trusts, by the number of the trust, in the order of its table.
 pub data RequesterId : Type 0 where
   OfMember : (member : ℕ) → RequesterId
+  OfTrust : (controller trust : ℕ) → RequesterId
 
 abbrev pub same_requester : RequesterId → RequesterId → Bool
 same_requester (OfMember one) (OfMember other) = one == other
+same_requester (OfMember one) (OfTrust controller trust) = false
+same_requester (OfTrust controller trust) (OfMember other) = false
+same_requester (OfTrust controller trust) (OfTrust other there) = (controller == other) && (trust == there)
 
 -- A turn of who asks on a channel that stands, whatever its call is: the channel and the timestamp of its
 -- authenticator. The call is a NetrLogonSamLogon, or a NetrServerPasswordSet.

@@ -10,7 +10,7 @@ use Rattle.wire_base.proofs.ListLaws.{no_some}
 use Rattle.account_table.specs.LookUps.{account_in, machine_name, place_in}
 use Rattle.logon_client.specs.Plans.{CanLogOn}
 use Rattle.secret_change.specs.Secrets.{SecretsState, alone}
-use Rattle.step_notes.specs.Records.{Book, Judging, OfMember, RequesterId}
+use Rattle.step_notes.specs.Records.{Book, Judging, OfMember, OfTrust, RequesterId}
 use Rattle.world_moves.specs.declared.moves.Move.{Move}
 use Rattle.world_moves.specs.declared.moves.Move.TheVariants as move
 use Rattle.world_moves.specs.Forms.{HasForms, HasMoveForm, IsAccount, IsByte, IsClientPlan, IsMemberPlan, IsSchedule, IsStationPlan, IsTable}
@@ -39,6 +39,7 @@ file1_found = refl
 pub none_other : (who : RequesterId) (name : List ℕ) → who ≢ OfMember 0 → computer_of changing_plan who ≡ Some name → SameName name (codes "FILE1") → ⊥
 none_other (OfMember zero) name other is same = other refl
 none_other (OfMember (suc k)) name other is same = no_some name is
+none_other (OfTrust controller trust) name other is same = no_some name is
 
 abbrev pub changing_begins : BeginsAlike changing_plan 0
 changing_begins = record {

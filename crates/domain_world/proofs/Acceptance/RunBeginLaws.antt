@@ -1,9 +1,10 @@
 -- A run begins as it is to go on: nothing is under way.
 -- It serves `runs_begin`.
-use Rattle.std.proofs.Common.{◌≡◌, Bool, true, false, ℕ, zero, suc, List, [], ◌∷◌, map, inl, inr, Some, None, slice_get, refl, sym, ap, ◌∙◌, subst, arith}
+use Rattle.std.proofs.Common.{◌≡◌, Bool, true, false, ℕ, zero, suc, List, [], ◌∷◌, map, inl, inr, Option, Some, None, slice_get, refl, sym, ap, ◌∙◌, subst, arith}
 use Rattle.std.specs.List.{AllByRecursion}
 use Rattle.account_table.specs.AccountTable.{AccountTable}
-use Rattle.channel_client.specs.Effects.{View}
+use Rattle.channel_client.specs.Effects.{View, view_of}
+use Rattle.channel_client.specs.State.{Requester}
 use Rattle.domain_controller.specs.State.{State as ControllerState}
 use Rattle.domain_controller.specs.declared.state.Running.{Running as ControllerRunning}
 use Rattle.member_server.specs.Machine.{fresh_member}
@@ -14,15 +15,14 @@ use Rattle.channel_turns.specs.declared.state.Dialling.TheVariants as dialling
 use Rattle.member_server.specs.declared.state.Running.{Running as MemberRunning}
 use Rattle.channel_events.specs.Requests.{CallsAreApart, Holds, Requests}
 use Rattle.world_moves.specs.declared.plan.Plan.{Plan}
-use Rattle.world_moves.specs.declared.state.State.{State}
 use Rattle.world_moves.specs.Plain.{plain_world}
 use Rattle.world_moves.specs.World.{first_controllers, first_world}
 use Rattle.world_moves.specs.Ends.{fresh_controller}
 use Rattle.domain_world.specs.Accepting.Runs.{AskedIsOut, IsQuietLink, IsQuietTurn, NumbersSuffice, RunsBegin, RunsStandSo, seen_in, view_with}
-use Rattle.domain_world.specs.Past.{past, requester_in, running_in}
-use Rattle.domain_world.proofs.Calls.ByRequesterLaws.{by_requester, by_requester_apart, seen_so}
+use Rattle.domain_world.specs.Past.{controller_asked, past, requester_in, running_in, trust_asker}
+use Rattle.domain_world.proofs.Moves.FreshTrustLaws.{IsUnused, asker_found, first_unused}
 use Rattle.wire_base.proofs.ListLaws.{got_nothing, no_some, some_is}
-use Rattle.step_notes.specs.Records.{OfMember}
+use Rattle.step_notes.specs.Records.{OfMember, OfTrust, RequesterId}
 
 -- ---- controllers
 
@@ -84,13 +84,8 @@ first_seen make blank (plan ∷ plans) controller (suc k) v there = first_seen m
 
 -- ---- calls
 
-abbrev pub first_requests : State → Requests ℕ
-first_requests s = record {
-  views = λ k. seen_in s (OfMember k);
-  marks = [];
-  drawn = s.chances.drawn;
-  uses = 0;
-}
+abbrev pub first_requests : {Who : Type 0} → (Who → Option View) → List (List ℕ) → Requests Who
+first_requests views drawn = record { views = views; marks = []; drawn = drawn; uses = 0 }
 
 blank_holds : (challenge : List ℕ) → Holds blank_view challenge → ⊥
 blank_holds challenge holds = elim holds.how [ inl under ↦ no_some challenge under | inr there ↦ no_some there.0 there.1 ]
@@ -98,8 +93,9 @@ blank_holds challenge holds = elim holds.how [ inl under ↦ no_some challenge u
 holds_nothing : (v : View) (challenge : List ℕ) → blank_view ≡ v → Holds v challenge → ⊥
 holds_nothing v challenge blank holds = blank_holds challenge (subst (λ (w : View). Holds w challenge) (sym blank) holds)
 
-first_apart : (s : State) → ((k : ℕ) (v : View) → seen_in s (OfMember k) ≡ Some v → blank_view ≡ v) → CallsAreApart (first_requests s)
-first_apart s seen = record {
+first_apart : {Who : Type 0} → (views : Who → Option View) (drawn : List (List ℕ)) → ((who : Who) (v : View) → views who ≡ Some v → blank_view ≡ v) →
+    CallsAreApart (first_requests views drawn)
+first_apart views drawn seen = record {
   made_before = λ unit number c asked. absurd (got_nothing unit asked.mark asked.there);
   held_before = λ i v challenge at holds. absurd (holds_nothing v challenge (seen i v at) holds);
   apart = λ i j u v challenge at also holds too. absurd (holds_nothing u challenge (seen i u at) holds);
@@ -109,12 +105,28 @@ first_apart s seen = record {
   calls = λ i v at. let is : blank_view ≡ v = seen i v at in omega (arith, ap (λ (w : View). w.call) is);
 }
 
-worlds_apart : (plan : Plan) → CallsAreApart (first_requests (first_world plan).state)
-worlds_apart plan = first_apart (first_world plan).state (λ k v at. first_seen sealing_member (λ controller own. refl) plan.members _ k v at)
+-- who asks for a trust has asked nothing
+trust_seen : (found : Option ControllerState) (controller trust : ℕ) (v : View) → ((s : Requester) → trust_asker found trust ≡ Some s → IsUnused s) →
+    view_with controller (trust_asker found trust) ≡ Some v → blank_view ≡ v
+trust_seen found controller trust v unused = by (trust_asker found trust) unused
+  where
+    by : (asker : Option Requester) → ((s : Requester) → asker ≡ Some s → IsUnused s) → view_with controller asker ≡ Some v → blank_view ≡ v
+    by None each there = absurd (no_some v there)
+    by (Some s) each there = ap (view_of controller) (each s refl).is ∙ some_is (view_of controller s) v there
+
+world_seen : (plan : Plan) (who : RequesterId) (v : View) → seen_in (first_world plan).state who ≡ Some v → blank_view ≡ v
+world_seen plan (OfMember k) v at = first_seen sealing_member (λ controller own. refl) plan.members _ k v at
+world_seen plan (OfTrust controller trust) v at =
+    let controllers : List ControllerState = (first_world plan).state.ends.controllers in
+    trust_seen (slice_get controllers controller) (controller_asked (OfTrust controller trust) (first_world plan).state) trust v
+    (λ s is.
+    asker_found (slice_get controllers controller) trust s (λ c there k one got. first_unused plan.hands_on plan.seals plan.tables plan.controllers controller c there k one got) is) at
 
 -- calls are apart in the first world of a plain plan
-pub plain_apart : (plan : Plan) → CallsAreApart (first_requests (plain_world plan).state)
-plain_apart plan = first_apart (plain_world plan).state (λ k v at. first_seen fresh_member (λ controller own. refl) plan.members _ k v at)
+pub plain_apart : (plan : Plan) → CallsAreApart (first_requests (λ (k : ℕ). seen_in (plain_world plan).state (OfMember k)) (plain_world plan).state.chances.drawn)
+plain_apart plan =
+    first_apart (λ (k : ℕ). seen_in (plain_world plan).state (OfMember k)) (plain_world plan).state.chances.drawn
+    (λ k v at. first_seen fresh_member (λ controller own. refl) plan.members _ k v at)
 
 first_out : (plan : Plan) → AskedIsOut (past plan [])
 first_out plan k m running pending logon there runs turn question kept =
@@ -127,9 +139,9 @@ first_stands plan = record {
     controllers = first_controller plan.hands_on plan.seals plan.tables plan.controllers;
     members = λ i m running there runs. (first_member plan.members i m running there runs).quiet;
   };
-  requests = by_requester (first_requests (first_world plan).state);
-  shows = record { views = seen_so (first_requests (first_world plan).state) (first_world plan).state (λ k. refl); marks = refl; drawn = refl; few = omega arith };
-  apart = by_requester_apart (first_requests (first_world plan).state) (worlds_apart plan);
+  requests = first_requests (seen_in (first_world plan).state) (first_world plan).state.chances.drawn;
+  shows = record { views = λ who. refl; marks = refl; drawn = refl; few = omega arith };
+  apart = first_apart (seen_in (first_world plan).state) (first_world plan).state.chances.drawn (world_seen plan);
   out = first_out plan;
 }
 

@@ -205,7 +205,7 @@ module _ (plan : Plan) (moves : List Move) (nobody : IsPlainAlone plan) (schedul
       let facts : OwnFacts plan s given b =
       holds few (leads.earlier.clash clear.apart) (apart_at s b leads) (marks_before s p.world.state b last (grows_last s b leads) (marks_known plan moves nobody)) differ in
       let it : OwnOf plan s given b (OfMember member) (Some running) =
-      subst (λ (found : Option MemberState). OwnOf plan s given b (OfMember member) (running_in found)) is (facts.asks (OfMember member)) in
+      subst (λ (found : Option MemberState). OwnOf plan s given b (OfMember member) (running_in found)) is (facts.asks member) in
       (it.1.own, subst (λ (c : ℕ). KnowsCalls (IsTakenFor (past_at plan s b)) (marks_in b.sent) it.1.own c running.logons.channel) asks it.1.calls)
 
   pub set_out : (n : ℕ) (s : State) (given : Given) (b : Book) → OwnHolds plan n s given b → Leads s b → n ≤ most_steps → Differ s.chances.drawn → (member controller : ℕ) (running : Running) →

@@ -67,6 +67,7 @@ use Rattle.domain_world.proofs.Calls.CallStepLaws.{KeptSo, member_changes, clien
 use Rattle.domain_world.proofs.Calls.OutStepLaws.{IsOther, IsOutIn, MemberHolds, OutFor, none_out}
 use Rattle.domain_world.proofs.Moves.PlacedLaws.{HasBytes}
 use Rattle.domain_world.proofs.Frames.EndNoteLaws.{acted_by, stepped}
+use Rattle.domain_world.proofs.Moves.NoTrustLaws.{NoneAsks, none_asked}
 use Rattle.domain_world.proofs.Calls.ByRequesterLaws.{by_requester, by_requester_apart, seen_so}
 use Rattle.authenticators.specs.Channels.{ChannelIdentity}
 use Rattle.world_moves.proofs.ChangeLaws.{by_change}
@@ -307,15 +308,15 @@ out_at p n holds k m running pending logon there runs turn reply kept =
     (out pending logon turn reply kept)
 
 -- calls stand, from what is known after `steps` steps
-pub calls_stand : (plan : Plan) (moves : List Move) (steps : ℕ) → CallsKept steps (past plan moves).world.state [] (past plan moves).book →
+pub calls_stand : (plan : Plan) (moves : List Move) (steps : ℕ) → NoneAsks (past plan moves).world.state → CallsKept steps (past plan moves).world.state [] (past plan moves).book →
     steps + 2 * length (past plan moves).world.state.open_links ≤ 10 * length moves → IsSchedule plan moves → DrawsDiffer (past plan moves).world → CallsStand plan moves
-calls_stand plan moves steps kept few schedule differ =
+calls_stand plan moves steps none kept few schedule differ =
     let p : Past = past plan moves in
     let holds : CallsHold steps p.world.state.member_plans p.world.state.ends p.world.state.chances.drawn p.world.state.links p.book.sent p.book.messages =
     kept (omega (arith, few, schedule.few)) differ in
     record {
       requests = by_requester (requests_at steps p.world.state.member_plans p.world.state.ends p.world.state.chances.drawn p.book.sent);
-      shows = record { views = seen_so (requests_at steps p.world.state.member_plans p.world.state.ends p.world.state.chances.drawn p.book.sent) p.world.state (λ k. refl); marks = refl; drawn = refl; few = omega (arith, few) };
+      shows = record { views = seen_so (requests_at steps p.world.state.member_plans p.world.state.ends p.world.state.chances.drawn p.book.sent) p.world.state none (λ k. refl); marks = refl; drawn = refl; few = omega (arith, few) };
       apart = by_requester_apart (requests_at steps p.world.state.member_plans p.world.state.ends p.world.state.chances.drawn p.book.sent) holds.apart;
       out = out_at p steps holds;
     }
@@ -331,7 +332,7 @@ stand_so Quiet Fine so keeps plan moves nobody first bytes schedule differ =
     join Quiet CallsKept Fine AnyAction keeps (with_side QuietSide Quiet CallsKept AnyAction so calls_keep) in
     let after : HoldsAfterRun (BothFacts Quiet CallsKept) plan moves =
     run_keeps (BothFacts Quiet CallsKept) (BothFine Fine AnyAction) both plan moves nobody bytes (first, first_calls plan) in
-    let stand : CallsStand plan moves = calls_stand plan moves after.steps after.holds.1 after.few schedule differ in
+    let stand : CallsStand plan moves = calls_stand plan moves after.steps (none_asked plan moves nobody) after.holds.1 after.few schedule differ in
     record {
       quiet = so after.steps (past plan moves).world.state [] (past plan moves).book after.holds.0;
       requests = stand.requests;

@@ -38,7 +38,7 @@ pub record SameNumbers (ends later : EndStates) : Type 0 where
   pub clients : length later.clients ≡ length ends.clients
   pub stations : length later.stations ≡ length ends.stations
 
-peer_same : (peer : List ℕ) (ends later : EndStates) → SameNumbers ends later → end_of_peer peer later ≡ end_of_peer peer ends
+pub peer_same : (peer : List ℕ) (ends later : EndStates) → SameNumbers ends later → end_of_peer peer later ≡ end_of_peer peer ends
 peer_same [] ends later same = refl
 peer_same (number ∷ []) ends later same =
     ap (λ (n : ℕ). end_in number n (length later.members) (length later.clients) (length later.stations)) same.controllers

@@ -186,7 +186,7 @@ module _ (plan : Plan) (m : MemberState) (at : ℕ) (w : Delivery) (piece : List
         accepted = own;
         mark = mark;
         marked = marked;
-        call = subst (λ (number : ℕ). IsCallMark number mark) (asked_stays (OfMember at) (plain_world plan).state s plans same) call;
+        call = subst (λ (number : ℕ). IsCallMark number mark) (asked_stays at (plain_world plan).state s plans same) call;
       }) now_units numbers (units_fit stand.accepted) numbered)
       (all_join (IsGood Good) b.messages new
       (good_so (IsCallOn plan s.links b.sent) Good (λ link k it. call_more plan s.links b.sent (map (sent_at w.at) placed) link k it) b.messages stand.calls)
@@ -288,5 +288,5 @@ calls_marked plan moves nothing =
       mark = it.marked.is ∙ it.call.is;
       controller = it.call.named
           ∙ ap (λ (k : ℕ). controller_asked (OfMember k) (plain_world plan).state) member
-          ∙ sym (asked_stays (OfMember message.member) (plain_world plan).state p.world.state holds.0 holds.1);
+          ∙ sym (asked_stays message.member (plain_world plan).state p.world.state holds.0 holds.1);
     }) holds.2.calls holds.2.accepted

@@ -37,7 +37,7 @@ use Rattle.world_moves.specs.Links.{acceptor_of, dialler_of}
 use Rattle.world_moves.specs.Moving.{begun, changed, with_link}
 use Rattle.world_moves.specs.Plain.{IsPlain, hear_plain as hear, plain_world}
 use Rattle.world_moves.specs.World.{World, first_world, happens, run}
-use Rattle.domain_world.specs.Past.{Delivery, book}
+use Rattle.domain_world.specs.Past.{Delivery, book, past}
 use Rattle.wire_base.proofs.ListLaws.{all_weaker, at_end, got_nothing}
 use Rattle.world_moves.proofs.AloneLaws.{alone_first, change_asks, first_alone, hears_asks, plainly_alone as hears_so_alone, renew_asks}
 use Rattle.world_moves.proofs.PlainLaws.{first_plain, moved_plain}
@@ -361,6 +361,13 @@ moves_keep_alone Known Holds keeps plan moves nobody has holds =
     let after : HoldsAfterMoves Known (Both AloneFact Holds) plan moves =
     moves_keep_plain Known (Both AloneFact Holds) (both_keep Known Holds keeps) plan moves nobody.plain has (λ on. (starts_alone 0 on (plain_world plan).state (first_is_alone plan nobody), holds on)) in
     record { steps = after.steps; holds = after.holds.1; few = after.few }
+
+-- nobody is asked after any run of it
+pub asks_nobody : (plan : Plan) (moves : List Move) → IsPlainAlone plan → AsksNobody (past plan moves).world.state
+asks_nobody plan moves nobody =
+    let after : HoldsAfterMoves ⊥ AloneFact plan moves =
+    moves_keep_plain ⊥ AloneFact (alone_keeps ⊥) plan moves nobody.plain (λ none. absurd none) (λ on. starts_alone 0 on (plain_world plan).state (first_is_alone plan nobody)) in
+    after.holds.state.asks
 
 -- a fact that says of the bag that its units are bytes is kept where what is handed in are bytes
 pub moves_carry_alone : (Holds : MoveFact) → KeepsMoves (Unit {0}) NoSide Holds → ((n at : ℕ) (s : State) (b : Book) → Holds n (started at None) s [] b → IsBytesBag s.bag) →

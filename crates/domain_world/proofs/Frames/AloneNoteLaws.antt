@@ -1,6 +1,7 @@
 -- What is written down of bytes that come at an end, where controllers ask nobody: of a controller it is what
 -- `ControllerNotes` says. It serves the frames, and what is carried by them.
 use Rattle.std.proofs.Common.{◌≡◌, ◌||◌, ℕ, Bool, true, false, List, [], drop, length, map, Option, Some, None, Result, Ok, Err, slice_get, refl, sym, ap, ap₂, subst, ◌∙◌}
+use Rattle.std.proofs.lemmas.List.{append-nil}
 use Rattle.outside.specs.Machine.{Stepped}
 use Rattle.outside.specs.declared.action.Action.{Action}
 use Rattle.outside.specs.declared.action.StepRefused.{StepRefused}
@@ -22,7 +23,7 @@ use Rattle.domain_controller.proofs.TrustAloneLaws.{steps_alone}
 use Rattle.domain_controller.proofs.TrustHereLaws.{answers_here}
 use Rattle.step_notes.specs.ControllerNotes.{Answered, answer_on, units_of_controller}
 use Rattle.step_notes.specs.MemberNotes.{TurnNote}
-use Rattle.step_notes.specs.Records.{Book, Forward, unit_in}
+use Rattle.step_notes.specs.Records.{Book, CallTaken, Forward, unit_in}
 use Rattle.step_notes.specs.Served.{units_if_taken}
 use Rattle.step_notes.specs.TrustNotes.{asking_note, asking_units_in, asking_units_on, calls_handed, forwards_at, places_behind}
 use Rattle.step_notes.proofs.Controllers.TrustNoteLaws.{notes_alike}
@@ -30,7 +31,7 @@ use Rattle.world_moves.specs.declared.links.EndId.{EndId}
 use Rattle.world_moves.specs.declared.links.EndId.TheVariants.{Controller, Member, Client, Station}
 use Rattle.world_moves.specs.declared.state.State.{State}
 use Rattle.world_moves.specs.Alone.{AsksNobody}
-use Rattle.domain_world.specs.Past.{Delivery, answers_of, any_turn_clash, asked_in_turn, asking_notes, at_controller, forwards_of, heard_marks, note_answers, note_at, note_calls, note_client, note_controller as note_every, note_member, with_clash, with_forwards, with_sent}
+use Rattle.domain_world.specs.Past.{Delivery, answers_of, any_turn_clash, asked_in_turn, asker_of, asking_notes, at_controller, forwards_of, heard_marks, note_answers, note_at, note_calls, note_client, note_controller as note_every, note_member, with_clash, with_forwards, with_sent, with_taken}
 
 -- ---- what is written down by the step of a controller that asks nobody
 
@@ -92,17 +93,19 @@ module _ (at : ℕ) (c : ControllerState) (w : Delivery) (piece : List ℕ) (s a
       ap (λ (places : List (ℕ × ℕ)). forwards_at w.link places (calls_handed (answers_of at c w piece s)))
       (ap₂ (λ (before : ForwardedCalls) (calls : ForwardedCalls). places_behind (length before) calls) none.none (stays ∙ none.none))
 
-  abbrev written : Bool → Bool → List Forward → Book
-  written on clash forwards =
+  abbrev written : Bool → Bool → List TurnNote → List Forward → Book
+  written on clash notes forwards =
       with_sent w.at (heard_marks on at c w piece s after b.forwards (drop (length s.bag) after.bag))
-      (with_clash clash (with_forwards forwards (note_calls (answers_of at c w piece s) w s after b)))
+      (with_clash clash (with_taken (asker_of at c) w.at (unit_in w.source) notes (with_forwards forwards (note_calls (answers_of at c w piece s) w s after b))))
 
   -- a controller that asks nobody is noted by what it answers
   pub quiet_noted : note_every (Some c) at w piece s after b ≡ note_answers (answers_of at c w piece s) w s after b
   quiet_noted =
-      ap (λ (on : Bool). written on (any_turn_clash (asking_notes c w piece s) (unit_in w.source) b.sent) (forwards_of at c w piece s)) (ap (λ (how : Dialling). is_on w.link how) none.idle)
-      ∙ ap (λ (notes : List TurnNote). written false (any_turn_clash notes (unit_in w.source) b.sent) (forwards_of at c w piece s)) none_asking
-      ∙ ap (λ (forwards : List Forward). written false false forwards) none_handed
+      ap (λ (on : Bool). written on (any_turn_clash (asking_notes c w piece s) (unit_in w.source) b.sent) (asking_notes c w piece s) (forwards_of at c w piece s))
+      (ap (λ (how : Dialling). is_on w.link how) none.idle)
+      ∙ ap (λ (notes : List TurnNote). written false (any_turn_clash notes (unit_in w.source) b.sent) notes (forwards_of at c w piece s)) none_asking
+      ∙ ap (λ (forwards : List Forward). written false false [] forwards) none_handed
+      ∙ ap (λ (answers : List CallTaken). record (written false false [] []) { answers = answers }) (append-nil b.answers)
       ∙ ap (λ (clash : Bool). record (note_answers (answers_of at c w piece s) w s after b) { clash = clash })
       (or_none (note_calls (answers_of at c w piece s) w s after b).clash)
 

@@ -74,7 +74,7 @@ bytes_rest true number piece name now table parts left = IsRest-refl left
 bytes_rest false number piece name now table parts left =
     on_rest (lookup same_number number parts.links) number piece name now (take_out same_number number parts.links) table parts left
 
-event_rest : (what : Event) (name : List ℕ) (now : ℕ) (table : AccountTable) (parts : Parts) (left : List (List ℕ)) → IsRest (left_by (by_trust_event what name now table parts left)) left
+pub event_rest : (what : Event) (name : List ℕ) (now : ℕ) (table : AccountTable) (parts : Parts) (left : List (List ℕ)) → IsRest (left_by (by_trust_event what name now table parts left)) left
 event_rest (event.Opened number) name now table parts left = IsRest-refl left
 event_rest (event.Bytes number piece) name now table parts left = bytes_rest (is_on number parts.dialling) number piece name now table parts left
 event_rest (event.Closed number) name now table parts left = IsRest-refl left

@@ -1,6 +1,6 @@
 -- What is known of the calls of a requester's turns says which calls were made on its open channel.
 -- It serves `Proved.sequences`.
-use Rattle.std.proofs.Common.{◌≡◌, ℕ, List, [], ◌∷◌, inl, inr, Option, Some, None, refl, ap, subst, ◌∙◌}
+use Rattle.std.proofs.Common.{◌≡◌, ℕ, List, [], ◌∷◌, inl, inr, Option, Some, None, refl, sym, ap, subst, ◌∙◌}
 use Rattle.std.specs.List.{AllByRecursion}
 use Rattle.authenticators.specs.Channels.{ChannelIdentity}
 use Rattle.channel_client.specs.declared.state.SetStep.TheVariants as set_step
@@ -9,8 +9,9 @@ use Rattle.channel_client.specs.declared.state.Pending.{Pending}
 use Rattle.channel_client.specs.declared.state.Step.{Step}
 use Rattle.channel_events.specs.Marks.{Mark, Calling}
 use Rattle.member_server.specs.declared.state.Running.{Running}
+use Rattle.wire_base.proofs.ListLaws.{no_some}
 use Rattle.step_notes.specs.MemberNotes.{timestamp_bound}
-use Rattle.step_notes.specs.Records.{Book, ChannelTurn, Sent, RequesterId}
+use Rattle.step_notes.specs.Records.{Book, ChannelTurn, OfMember, OfTrust, RequesterId, Sent}
 use Rattle.world_moves.specs.declared.state.State.{State}
 use Rattle.domain_world.specs.Accepting.Sequences.{AreSoFar, CallsOfTurns, HasPassed, HavePassed, IsMadeOn, TurnsAreCalled}
 use Rattle.domain_world.specs.Claims.SharedSequences.{timestamps_on}
@@ -21,6 +22,7 @@ use Rattle.domain_world.proofs.Sequences.CallTurnLaws.{AllDone, AreFar, AreFarBy
 use Rattle.domain_world.proofs.Sequences.Own.OwnRunLaws.{own_stamps}
 use Rattle.domain_world.proofs.Sequences.Own.OwnTurnLaws.{mine}
 use Rattle.domain_world.proofs.Sequences.SeedTurnLaws.{stamps_on}
+use Rattle.domain_world.proofs.Moves.NoTrustLaws.{NoneAsks}
 use Rattle.domain_world.proofs.Moves.RequesterLaws.{asker_in, RunsWith, asker_runs, stands_open}
 use Rattle.channel_client.specs.declared.state.Step.TheVariants as step
 
@@ -29,9 +31,9 @@ abbrev pub KnowsIf : (ℕ → Type 0) → List Mark → List ChannelTurn → ℕ
 KnowsIf Done marks own controller None = Unit {0}
 KnowsIf Done marks own controller (Some running) = KnowsCalls Done marks own controller running.logons.channel
 
--- of each requester, after a move: its turns are those that are written down
+-- of each member, after a move: its turns are those that are written down
 abbrev pub AllKnow : (ℕ → Type 0) → State → Book → Type 0
-AllKnow Done s b = (who : RequesterId) → KnowsIf Done (marks_in b.sent) (mine who b.turns) (controller_asked who s) (asker_in who s.ends)
+AllKnow Done s b = (k : ℕ) → KnowsIf Done (marks_in b.sent) (mine (OfMember k) b.turns) (controller_asked (OfMember k) s) (asker_in k s.ends)
 
 module _ (p : Past) (Done : ℕ → Type 0) (passed : (n : ℕ) → Done n → HasPassed p n) where
   abbrev marks : List Mark
@@ -74,12 +76,15 @@ module _ (p : Past) (Done : ℕ → Type 0) (passed : (n : ℕ) → Done n → H
     far = subst (λ (stamps : List ℕ). AreSoFar p turn calls.made stamps) same (so_far c turn (timestamp_bound (step_in turn)) calls.made (stamps_on c own) calls.far);
   }
 
-  pub turns_called : AllKnow Done p.world.state p.book → TurnsAreCalled p
-  turns_called all who channel o stands =
+  -- where no controller asks another one
+  pub turns_called : NoneAsks p.world.state → AllKnow Done p.world.state p.book → TurnsAreCalled p
+  turns_called none all (OfTrust controller trust) channel o stands = absurd (no_some stands.requester (sym (none controller trust) ∙ stands.at))
+  turns_called none all (OfMember k) channel o stands =
+      let who : RequesterId = OfMember k in
       let c : ℕ = controller_asked who p.world.state in
       let own : List ChannelTurn = mine who p.book.turns in
-      let with : RunsWith (asker_in who p.world.state.ends) stands.requester = asker_runs who p.world.state stands.requester stands.at in
+      let with : RunsWith (asker_in k p.world.state.ends) stands.requester = asker_runs k p.world.state stands.requester stands.at in
       let known : KnowsCalls Done marks own c stands.requester =
-      subst (KnowsCalls Done marks own c) with.is (subst (KnowsIf Done marks own c) with.runs (all who)) in
+      subst (KnowsCalls Done marks own c) with.is (subst (KnowsIf Done marks own c) with.runs (all k)) in
       of_turns channel stands.turn own (timestamps_on who channel p.book.turns) (own_stamps who channel p.book.turns)
       (subst (λ (turn : Option Pending). CallsMade Done marks own channel turn) stands.is_turn (known channel (stands_open p.world.state who channel o stands)))

@@ -23,7 +23,7 @@ one_member_turn plan moves nothing member m running there runs =
     let controller : ℕ = controller_asked (OfMember member) s in
     let its : TurnsOf (OfMember member) controller None [] s.dials s.chances.drawn [] (past plan moves).book.turns running =
     subst (TurnsIf (OfMember member) controller None [] s.dials s.chances.drawn [] (past plan moves).book.turns) (ap running_in there ∙ runs)
-    (turns_at s [] (past plan moves).book.turns holds (OfMember member)) in
+    (turns_at s [] (past plan moves).book.turns holds member) in
     record {
       out = its.order.out;
       few = omega (arith, its.out_once, dials_count (Member member) s.dials);

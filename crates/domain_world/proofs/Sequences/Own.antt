@@ -12,3 +12,5 @@ pub mod OwnTakenLaws
 pub mod OwnTurnLaws
 pub mod OwnWalkLaws
 pub mod OwnWholeLaws
+pub mod TrustOwnLaws
+pub mod TrustStepLaws

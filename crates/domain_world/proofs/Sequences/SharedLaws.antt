@@ -41,7 +41,7 @@ use Rattle.domain_world.proofs.Acceptance.AnsweredLaws.{AreInUnit, IsMade, Stand
 use Rattle.domain_world.proofs.Acceptance.AnsweredRunLaws.{answers_judged}
 use Rattle.domain_world.proofs.Acceptance.CarriedLaws.{one_unit, replies_to}
 use Rattle.domain_world.proofs.Acceptance.UnitLaws.{heard_in}
-use Rattle.domain_world.proofs.Sequences.Own.OwnRunLaws.{sequences_own}
+use Rattle.domain_world.proofs.Sequences.Own.TrustOwnLaws.{sequences_own}
 use Rattle.wire_base.proofs.ListPlaceLaws.{Placed, placed}
 use Rattle.domain_world.proofs.Judgements.MovedLaws.{moved_same}
 use Rattle.domain_world.proofs.Moves.DrawnRunLaws.{draws_differ}

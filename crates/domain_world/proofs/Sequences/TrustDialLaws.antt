@@ -77,7 +77,7 @@ dials_append (what ∷ one) more = omega (arith, dials_append one more)
 one_more : (what : Action) (actions : List Action) → dial_of what ≡ 0 → dials_in (actions ++ what ∷ []) ≡ dials_in actions
 one_more what actions none = omega (arith, dials_append actions (what ∷ []), none)
 
-one_dial : (peer : List ℕ) (actions : List Action) → dials_in (actions ++ action.Dial peer ∷ []) ≡ dials_in actions + 1
+pub one_dial : (peer : List ℕ) (actions : List Action) → dials_in (actions ++ action.Dial peer ∷ []) ≡ dials_in actions + 1
 one_dial peer actions = omega (arith, dials_append actions (action.Dial peer ∷ []))
 
 texts_none : (kept : List Action) → AllByRecursion IsKeep kept → dials_in kept ≡ 0
@@ -242,7 +242,7 @@ hears_same (dialling.On number said) link piece turning = hears_if (number == li
 -- ---- no event dials anything
 
 -- that many dials are among the actions of the part of a step
-abbrev PartDials : (n : ℕ) (part : TrustPart) → Type 0
+abbrev pub PartDials : (n : ℕ) (part : TrustPart) → Type 0
 PartDials n (Err why) = Unit {0}
 PartDials n (Ok part) = dials_in part.value.parts.work.work.actions ≡ n
 
@@ -291,7 +291,7 @@ bytes_dial true number piece name now table parts left =
 bytes_dial false number piece name now table parts left =
     served_dials (lookup same_number number parts.links) number piece name now (take_out same_number number parts.links) table parts left
 
-event_dials : (what : Event) (name : List ℕ) (now : ℕ) (table : AccountTable) (parts : Parts) (left : List (List ℕ)) →
+pub event_dials : (what : Event) (name : List ℕ) (now : ℕ) (table : AccountTable) (parts : Parts) (left : List (List ℕ)) →
     PartDials (dials_in parts.work.work.actions) (by_trust_event what name now table parts left)
 event_dials (event.Opened number) name now table parts left =
     opened_dials _ number (close_number number parts) ∙ closed_dials (is_on number parts.dialling) number parts
@@ -388,16 +388,16 @@ dials_once s what now left = once_by s.running s what now left refl
 
 -- ---- while a dial waits
 
-abbrev PartWaits : Dialling → TrustPart → Type 0
+abbrev pub PartWaits : Dialling → TrustPart → Type 0
 PartWaits how (Err why) = Unit {0}
 PartWaits how (Ok part) = part.value.parts.dialling ≡ how
 
-waits_off : (number : ℕ) (how : Dialling) → IsWaiting how → is_on number how ≡ false
+pub waits_off : (number : ℕ) (how : Dialling) → IsWaiting how → is_on number how ≡ false
 waits_off number dialling.Nothing waits = refl
 waits_off number (dialling.Waits turn frames) waits = refl
 waits_off number (dialling.On other said) waits = absurd waits
 
-waits_busy : (how : Dialling) → IsWaiting how → is_idle how ≡ false
+pub waits_busy : (how : Dialling) → IsWaiting how → is_idle how ≡ false
 waits_busy dialling.Nothing waits = absurd waits
 waits_busy (dialling.Waits turn frames) waits = refl
 waits_busy (dialling.On other said) waits = absurd waits
@@ -430,7 +430,7 @@ bytes_wait true number piece name now table parts left off = absurd (let x = off
 bytes_wait false number piece name now table parts left off =
     served_waits (lookup same_number number parts.links) number piece name now (take_out same_number number parts.links) table parts left
 
-event_waits : (what : Event) (name : List ℕ) (now : ℕ) (table : AccountTable) (parts : Parts) (left : List (List ℕ)) → IsNoAnswer what → IsWaiting parts.dialling →
+pub event_waits : (what : Event) (name : List ℕ) (now : ℕ) (table : AccountTable) (parts : Parts) (left : List (List ℕ)) → IsNoAnswer what → IsWaiting parts.dialling →
     PartWaits parts.dialling (by_trust_event what name now table parts left)
 event_waits (event.Opened number) name now table parts left none waits =
     opened_waits _ number (close_number number parts) ∙ closed_waits (is_on number parts.dialling) number parts (waits_off number parts.dialling waits)

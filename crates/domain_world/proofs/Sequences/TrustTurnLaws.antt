@@ -48,16 +48,16 @@ use Rattle.wire_base.proofs.ListLaws.{got_nothing, some_is}
 
 -- one dial of the controller is out at most, and a turn waits for it then; of a controller that stopped nothing is
 -- known
-abbrev OutIf : ℕ → Option EndId → Given → List WaitingDial → Option Running → Trusting → Type 0
+abbrev pub OutIf : ℕ → Option EndId → Given → List WaitingDial → Option Running → Trusting → Type 0
 OutIf at d rest dials None t = Unit {0}
 OutIf at d rest dials (Some running) t =
     (dials_out (Controller at) d rest dials ≤ 1) × (1 ≤ dials_out (Controller at) d rest dials → IsWaiting t.dialling)
 
-record TrustTurn (at : ℕ) (d : Option EndId) (rest : Given) (dials : List WaitingDial) (c : ControllerState) : Type 0 where
-  one : OneIsOut c.trusting
-  out : OutIf at d rest dials c.running c.trusting
+pub record TrustTurn (at : ℕ) (d : Option EndId) (rest : Given) (dials : List WaitingDial) (c : ControllerState) : Type 0 where
+  pub one : OneIsOut c.trusting
+  pub out : OutIf at d rest dials c.running c.trusting
 
-abbrev TrustsHold : DialFact
+abbrev pub TrustsHold : DialFact
 TrustsHold d rest plans ends dials chances given turns = (at : ℕ) (c : ControllerState) → slice_get ends.controllers at ≡ Some c → TrustTurn at d rest dials c
 
 -- ---- a controller that takes no step
@@ -232,7 +232,7 @@ changes_hold at secret s turns holds =
 
 -- ---- through a run
 
-trusts_keep : KeepsDials every TrustsHold
+pub trusts_keep : KeepsDials every TrustsHold
 trusts_keep = record {
   closes = λ d rest end link s given turns holds. hear_holds d d rest end (event.Closed link) s given turns (inl (tt, refl)) holds;
   opens = λ d end link s given turns holds. hear_holds d d [] end (event.Opened link) s given turns (inl (tt, refl)) holds;
@@ -250,7 +250,7 @@ trusts_keep = record {
   over = λ s given turns holds. holds;
 }
 
-controllers_first : (hands_on : Bool) (tables : List AccountTable) (names : List (List ℕ)) (at k : ℕ) (c : ControllerState) → slice_get (first_controllers hands_on false tables names) k ≡ Some c →
+pub controllers_first : (hands_on : Bool) (tables : List AccountTable) (names : List (List ℕ)) (at k : ℕ) (c : ControllerState) → slice_get (first_controllers hands_on false tables names) k ≡ Some c →
     TrustTurn at None [] [] c
 controllers_first hands_on [] names at k c there = absurd (got_nothing k c there)
 controllers_first hands_on (table ∷ tables) [] at k c there = absurd (got_nothing k c there)

@@ -5,7 +5,7 @@ use Rattle.wire_base.proofs.ListLaws.{no_some, some_is}
 use Rattle.account_table.specs.AccountTable.{AccountTable}
 use Rattle.account_table.specs.LookUps.{account_in, machine_name}
 use Rattle.domain_controller.specs.State.{State as ControllerState}
-use Rattle.step_notes.specs.Records.{OfMember, RequesterId}
+use Rattle.step_notes.specs.Records.{OfMember, OfTrust, RequesterId}
 use Rattle.world_moves.specs.declared.plan.Plan.{Plan}
 use Rattle.world_moves.specs.Unforwarded.{alone_plan, erased_controller}
 use Rattle.domain_world.specs.Claims.NeverApart.{BeginsAlike, IsNeverApart, MembersAreNeverApart, computer_of}
@@ -16,6 +16,7 @@ use Rattle.domain_world.proofs.Unforwarded.SeenLaws.{seen}
 
 computer_same : (plan : Plan) (who : RequesterId) → computer_of (alone_plan plan) who ≡ computer_of plan who
 computer_same plan (OfMember member) = refl
+computer_same plan (OfTrust controller trust) = refl
 
 abbrev begins_seen : (plan : Plan) (member : ℕ) → BeginsAlike plan member → BeginsAlike (alone_plan plan) member
 begins_seen plan member b = record {

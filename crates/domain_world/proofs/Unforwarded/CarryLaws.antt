@@ -25,10 +25,10 @@ use Rattle.domain_world.specs.Claims.SharedSequences.{SequencesAreShared}
 use Rattle.domain_world.specs.Past.{Past, past}
 use Rattle.domain_world.specs.Unforwarded.{CarriesOver, IsProvedAlone}
 use Rattle.domain_world.proofs.Unforwarded.ApartSeenLaws.{never_apart_so}
-use Rattle.domain_world.proofs.Unforwarded.ErasedBookLaws.{books_alone}
+use Rattle.domain_world.proofs.Unforwarded.ErasedBookLaws.{asker_unused, books_alone}
 use Rattle.domain_world.proofs.Unforwarded.ErasedLaws.{runs_alone}
-use Rattle.domain_world.proofs.Unforwarded.RunSeenLaws.{complete_so, one_by_one_so, schedule_seen}
-use Rattle.domain_world.proofs.Unforwarded.SeenLaws.{all_so, answered_so, called_so, once_so, only_so, opened_by_so, opened_marks_so, reply_marks_so, seen, shared_so}
+use Rattle.domain_world.proofs.Unforwarded.RunSeenLaws.{complete_so, one_by_one_so, schedule_seen, still_after}
+use Rattle.domain_world.proofs.Unforwarded.SeenLaws.{AreUnused, all_so, answered_so, called_so, once_so, only_so, opened_by_so, opened_marks_so, reply_marks_so, seen, shared_so}
 
 module _ (plan : Plan) (moves : List Move) (nothing : IsPlainPlan plan) (is : IsUnforwarded plan moves) (alone : IsProvedAlone (alone_plan plan) moves) where
   abbrev run_seen : Past
@@ -54,6 +54,9 @@ module _ (plan : Plan) (moves : List Move) (nothing : IsPlainPlan plan) (is : Is
   clear_so : IsClear run_seen.book → IsClear other.book
   clear_so clear = subst IsClear (sym (books_alone plan moves nothing is)) clear
 
+  unused : AreUnused run_seen.world.state
+  unused = asker_unused run_seen.world.state (still_after plan moves nothing is)
+
   carried_over : IsProvedAlone plan moves
   carried_over = record {
     opened_kinds = λ schedule. on OpeningsNameTheirKind (alone.opened_kinds (schedule_alone schedule));
@@ -66,8 +69,8 @@ module _ (plan : Plan) (moves : List Move) (nothing : IsPlainPlan plan) (is : Is
     keys = λ schedule clear. on KeysAgree (alone.keys (schedule_alone schedule) (clear_so clear));
     counts = λ schedule clear. on EachCallRaisesOnce (alone.counts (schedule_alone schedule) (clear_so clear));
     once = λ schedule clear. once_so run_seen (on ShortResponsesLetInOnce (alone.once (schedule_alone schedule) (clear_so clear)));
-    sequences = λ schedule clear. shared_so run_seen (on SequencesAreShared (alone.sequences (schedule_alone schedule) (clear_so clear)));
-    called = λ schedule clear. called_so run_seen (on TurnsAreCalled (alone.called (schedule_alone schedule) (clear_so clear)));
+    sequences = λ schedule clear. shared_so run_seen unused (on SequencesAreShared (alone.sequences (schedule_alone schedule) (clear_so clear)));
+    called = λ schedule clear. called_so run_seen unused (on TurnsAreCalled (alone.called (schedule_alone schedule) (clear_so clear)));
     whole = λ schedule. on MarkedUnitsAreWhole (alone.whole (schedule_alone schedule));
     asks_for = λ schedule. on CallsAskForMessages (alone.asks_for (schedule_alone schedule));
     reply_marks = λ schedule. reply_marks_so run_seen (on RepliesAreMarked (alone.reply_marks (schedule_alone schedule)));

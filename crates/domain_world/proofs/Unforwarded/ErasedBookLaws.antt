@@ -23,8 +23,8 @@ use Rattle.domain_controller.proofs.TrustAloneLaws.{steps_alone}
 use Rattle.channel_events.specs.Marks.{Mark}
 use Rattle.step_notes.specs.ControllerNotes.{Answered, answer_on, units_at, units_by, units_of_controller}
 use Rattle.step_notes.specs.Marking.{turn_marks}
-use Rattle.step_notes.specs.MemberNotes.{turn_in, turn_note, turn_units}
-use Rattle.step_notes.specs.Records.{Book, ChannelTurn, Forward, InUnit, OfMember, Outside, blank, unit_in}
+use Rattle.step_notes.specs.MemberNotes.{turn_by, turn_if, turn_in, turn_note, turn_units}
+use Rattle.step_notes.specs.Records.{Book, ChannelTurn, Forward, InUnit, OfMember, OfTrust, Outside, RequesterId, blank, unit_in}
 use Rattle.step_notes.specs.Served.{units_if_taken}
 use Rattle.step_notes.proofs.Controllers.TrustNoteLaws.{notes_alike}
 use Rattle.world_moves.specs.declared.bag.BagUnit.{BagUnit}
@@ -43,7 +43,13 @@ use Rattle.world_moves.specs.Moving.{act, come_by, come_on_own, deliver_by, deli
 use Rattle.world_moves.specs.Unforwarded.{IsUnforwarded, alone_plan, erased, erased_controller, erased_ends, erased_world}
 use Rattle.world_moves.specs.World.{World, actions_of_run, first_world, happens, run, run_of}
 use Rattle.world_moves.specs.Plain.{IsPlainPlan}
-use Rattle.domain_world.specs.Past.{Delivery, answers_of, at_controller, beside_mark, book, controller_number, controller_of, controller_of_plan, is_sent_on, mark_or, note, note_answers, note_at, note_chosen, note_client, note_coming, note_controller, note_deliver, note_given, note_hand, note_member, note_messages, note_on, note_onward, note_own, note_piece, note_pieces, note_turns, note_unit, numbers_on, past, running_in, sent_at, still_waits, turns_by, turns_in, waits_at, with_marks, with_taken}
+use Rattle.domain_world.specs.Past.{answers_of, asker_of, at_controller, beside_mark, book, controller_asked, controller_number, controller_of, controller_of_plan, is_sent_on, mark_or, note, note_answers, note_at, note_chosen, note_client, note_coming, note_controller, note_deliver, note_given, note_hand, note_member, note_messages, note_on, note_onward, note_own, note_piece, note_pieces, note_turns, note_unit, numbers_on, past, requester_at, running_in, sent_at, still_waits, trust_asker, turn_for_trust, turns_by, turns_in, waits_at, with_marks, with_taken, Delivery}
+use Rattle.channel_client.specs.Effects.{stands_in, step_in}
+use Rattle.channel_client.specs.State.{Requester}
+use Rattle.channel_client.specs.declared.state.Pending.{Pending}
+use Rattle.domain_world.proofs.Moves.FreshTrustLaws.{IsUnused, asker_found}
+use Rattle.domain_world.proofs.Moves.NoTrustLaws.{NoneAsks, nobody_on}
+use Rattle.wire_base.proofs.ListLaws.{no_some}
 use Rattle.domain_world.proofs.Frames.AloneNoteLaws.{answers_alike, none_asked, quiet_noted}
 use Rattle.domain_world.proofs.Unforwarded.ErasedLaws.{IsFine, IsSame, IsStill, as_many, controller_same, first_erased, first_still, fine_first, get_mapped, happens_same, move_same, part_erased_answer, peer_same, piece_fine, piece_same, told_later}
 
@@ -118,7 +124,7 @@ end_noted : (end : Option EndId) (w : Delivery) (piece : List ℕ) (s after : St
 end_noted None w piece s after b still fine = refl
 end_noted (Some (Controller at)) w piece s after b still fine =
     ap (λ (found : Option ControllerState). note_controller found at w piece (erased s) (erased after) b) (get_mapped erased_controller s.ends.controllers at)
-    ∙ controller_noted (slice_get s.ends.controllers at) at w piece s after b (λ c is. (still.1 at c is, controller_same at (event.Bytes w.link piece) s c is still fine))
+    ∙ controller_noted (slice_get s.ends.controllers at) at w piece s after b (λ c is. ((still.1 at c is).none, controller_same at (event.Bytes w.link piece) s c is still fine))
 end_noted (Some (Member at)) w piece s after b still fine = member_noted (slice_get s.ends.members at) at w piece s after b
 end_noted (Some (Client at)) w piece s after b still fine = client_noted (slice_get s.ends.clients at) at w piece s b
 end_noted (Some (Station at)) w piece s after b still fine = refl
@@ -186,21 +192,54 @@ coming_noted (move.Tick more) at s b still fine = refl
 
 -- ---- what ends gave
 
-turn_same : (end : EndId) (what : Action) (after : State) → turns_by end what (erased after) ≡ turns_by end what after
-turn_same (Controller at) what after = refl
-turn_same (Member at) (action.Dial peer) after =
-    ap (λ (controller : ℕ). turn_in controller at (running_in (slice_get after.ends.members at))) (asked_same at after)
-turn_same (Member at) (action.Keep bytes) after = refl
-turn_same (Member at) (action.Send link bytes) after = refl
-turn_same (Member at) (action.Close link cause) after = refl
-turn_same (Member at) (action.Told link outcome) after = refl
-turn_same (Member at) (action.Judged how) after = refl
-turn_same (Client at) what after = refl
-turn_same (Station at) what after = refl
+-- no turn is out at one that isn't there, or at which nobody asked
+none_if : (controller : ℕ) (who : RequesterId) (found : Option Requester) → ((s : Requester) → found ≡ Some s → s.turn ≡ None) → turn_if controller who found ≡ []
+none_if controller who None none = refl
+none_if controller who (Some s) none =
+    ap (λ (turn : Option Pending). turn_by (step_in turn) (stands_in controller s.caller.computer s.standing) who) (none s refl)
 
-turns_same : (given : Given) (after : State) → turns_in given (erased after) ≡ turns_in given after
-turns_same [] after = refl
-turns_same (one ∷ given) after = ap₂ (λ (turns more : List ChannelTurn). turns ++ more) (turn_same one.0 one.1 after) (turns_same given after)
+-- so nothing is written down where a controller dials
+none_for : (at : ℕ) (found : Option ControllerState) (s : State) → ((trust : ℕ) (one : Requester) → requester_at s (OfTrust at trust) ≡ Some one → one.turn ≡ None) → turn_for_trust at found s ≡ []
+none_for at None s none = refl
+none_for at (Some c) s none = none_if (controller_asked (asker_of at c) s) (asker_of at c) (requester_at s (asker_of at c)) (none c.trusting.turn_of)
+
+nobody_found : (found : Option ControllerState) (trust : ℕ) → trust_asker (option_map erased_controller found) trust ≡ None
+nobody_found None trust = refl
+nobody_found (Some c) trust = nobody_on c.running trust
+
+nobody_asks : (s : State) → NoneAsks (erased s)
+nobody_asks s at trust =
+    ap (λ (found : Option ControllerState). trust_asker found trust) (get_mapped erased_controller s.ends.controllers at) ∙ nobody_found (slice_get s.ends.controllers at) trust
+
+-- each that asks for a trust is as it was made
+pub asker_unused : (s : State) → IsStill s → (at trust : ℕ) (one : Requester) → requester_at s (OfTrust at trust) ≡ Some one → IsUnused one
+asker_unused s still at trust one is = asker_found (slice_get s.ends.controllers at) trust one (λ c there. (still.1 at c there).unused) is
+
+trust_turn_same : (at : ℕ) (after : State) → IsStill after → turn_for_trust at (slice_get (erased after).ends.controllers at) (erased after) ≡ turn_for_trust at (slice_get after.ends.controllers at) after
+trust_turn_same at after still =
+    none_for at (slice_get (erased after).ends.controllers at) (erased after) (λ trust one is. absurd (no_some one (sym (nobody_asks after at trust) ∙ is)))
+    ∙ sym (none_for at (slice_get after.ends.controllers at) after (λ trust one is. ap (λ (s : Requester). s.turn) (sym (asker_unused after still at trust one is).is)))
+
+turn_same : (end : EndId) (what : Action) (after : State) → IsStill after → turns_by end what (erased after) ≡ turns_by end what after
+turn_same (Controller at) (action.Dial peer) after still = trust_turn_same at after still
+turn_same (Controller at) (action.Keep bytes) after still = refl
+turn_same (Controller at) (action.Send link bytes) after still = refl
+turn_same (Controller at) (action.Close link cause) after still = refl
+turn_same (Controller at) (action.Told link outcome) after still = refl
+turn_same (Controller at) (action.Judged how) after still = refl
+turn_same (Member at) (action.Dial peer) after still =
+    ap (λ (controller : ℕ). turn_in controller at (running_in (slice_get after.ends.members at))) (asked_same at after)
+turn_same (Member at) (action.Keep bytes) after still = refl
+turn_same (Member at) (action.Send link bytes) after still = refl
+turn_same (Member at) (action.Close link cause) after still = refl
+turn_same (Member at) (action.Told link outcome) after still = refl
+turn_same (Member at) (action.Judged how) after still = refl
+turn_same (Client at) what after still = refl
+turn_same (Station at) what after still = refl
+
+turns_same : (given : Given) (after : State) → IsStill after → turns_in given (erased after) ≡ turns_in given after
+turns_same [] after still = refl
+turns_same (one ∷ given) after still = ap₂ (λ (turns more : List ChannelTurn). turns ++ more) (turn_same one.0 one.1 after still) (turns_same given after still)
 
 -- no call waits that was handed on
 waits_found : (found : Option ControllerState) (one : Forward) → ((c : ControllerState) → found ≡ Some c → NoneIsAsked c.trusting) →
@@ -213,7 +252,7 @@ module _ (after : State) (still : IsStill after) where
   waits_same one =
       let controllers : List ControllerState = after.ends.controllers in
       ap (λ (found : Option ControllerState). waits_at found one) (get_mapped erased_controller controllers one.judging.controller)
-      ∙ waits_found (slice_get controllers one.judging.controller) one (λ c is. still.1 one.judging.controller c is)
+      ∙ waits_found (slice_get controllers one.judging.controller) one (λ c is. (still.1 one.judging.controller c is).none)
 
   beside_same : (forwards : List Forward) (unit : BagUnit) → beside_mark forwards (erased after) unit ≡ beside_mark forwards after unit
   beside_same [] unit = refl
@@ -232,7 +271,7 @@ module _ (after : State) (still : IsStill after) where
 
   given_noted : (at : ℕ) (given : Given) (b : Book) → note_given at given (erased after) b ≡ note_given at given after b
   given_noted at given b =
-      ap (λ (turns : List ChannelTurn). record (note_given at given (erased after) b) { turns = b.turns ++ turns }) (turns_same given after)
+      ap (λ (turns : List ChannelTurn). record (note_given at given (erased after) b) { turns = b.turns ++ turns }) (turns_same given after still)
       ∙ ap (λ (marks : List Mark). record (note_given at given after b) { sent = b.sent ++ map (sent_at at) marks; forwards = filter (still_waits (erased after)) b.forwards })
       (marks_same b.forwards (drop (length b.sent) after.bag))
       ∙ ap (λ (forwards : List Forward). record (note_given at given after b) { forwards = forwards }) (waiting_same b.forwards)

@@ -45,6 +45,9 @@ use Rattle.world_moves.specs.World.{World, actions_in, actions_of_run, first_con
 use Rattle.world_moves.proofs.PlainLaws.{controller_plain, of_found}
 use Rattle.world_moves.proofs.StateFrameLaws.{HoldsActing, HoldsMoving, StateFact, actions_so, closed_so, hears_so, move_so, pieces_so}
 use Rattle.domain_world.proofs.Frames.AnyStepLaws.{any_rests}
+use Rattle.domain_world.proofs.Moves.FreshTrustLaws.{IsUnused, fresh_unused}
+use Rattle.channel_client.specs.State.{Requester}
+use Rattle.domain_controller.specs.declared.trusting.Trusting.{Trusting}
 use Rattle.interactive_station.specs.State.{StationState}
 use Rattle.interactive_station.specs.declared.plan.StationPlan.{StationPlan}
 
@@ -62,9 +65,13 @@ erased_step step = record step { ends = erased_ends step.ends }
 abbrev erased_stepped : Stepped ControllerState → Stepped ControllerState
 erased_stepped step = record step { state = erased_controller step.state }
 
--- nobody is asked anything
+-- nobody is asked anything, and nobody was of whom it could be asked
+pub record IsUnasked (t : Trusting) : Type 0 where
+  pub none : NoneIsAsked t
+  pub unused : (k : ℕ) (s : Requester) → slice_get t.queues.requesters k ≡ Some s → IsUnused s
+
 abbrev pub AreStill : List ControllerState → Type 0
-AreStill controllers = (at : ℕ) (c : ControllerState) → slice_get controllers at ≡ Some c → NoneIsAsked c.trusting
+AreStill controllers = (at : ℕ) (c : ControllerState) → slice_get controllers at ≡ Some c → IsUnasked c.trusting
 
 -- the controllers of a world can't seal, and are made anew as controllers that can't
 abbrev pub IsStill : State → Type 0
@@ -174,14 +181,14 @@ given_actions : (answer : Result (List Action) StepRefused) → taken_actions an
 given_actions (Ok actions) = refl
 given_actions (Err why) = refl
 
-module _ (c : ControllerState) (what : Event) (now : ℕ) (left : List (List ℕ)) (none : NoneIsAsked c.trusting) where
+module _ (c : ControllerState) (what : Event) (now : ℕ) (left : List (List ℕ)) (unasked : IsUnasked c.trusting) where
   abbrev Taken : Stepped ControllerState
   Taken = trust_step_of c what now left
 
   -- the step, and the same of one that asks nobody
   record StepsStill : Type 0 where
     is : trust_step_of (erased_controller c) what now left ≡ erased_stepped Taken
-    still : NoneIsAsked Taken.state.trusting
+    still : IsUnasked Taken.state.trusting
 
   -- the step is that of a controller that asks nobody
   step_same : StepsHere c what now left → told_trusts (actions_by Taken.answer) ≡ 0 → 1 ≤ length Taken.left → Taken ≡ step_of c what now left
@@ -195,10 +202,10 @@ module _ (c : ControllerState) (what : Event) (now : ℕ) (left : List (List ℕ
 
   step_still : told_trusts (actions_by Taken.answer) ≡ 0 → 1 ≤ length Taken.left → StepsStill
   step_still told some =
-      let same : Taken ≡ step_of c what now left = step_same (answers_here.step c what now left none) told some in
+      let same : Taken ≡ step_of c what now left = step_same (answers_here.step c what now left unasked.none) told some in
       record {
         is = steps_alone.step (erased_controller c) what now left refl ∙ alone_erased c what now left ∙ ap erased_stepped (sym same);
-        still = subst NoneIsAsked (sym (ap (λ (step : Stepped ControllerState). step.state.trusting) same ∙ answers_here.stays c what now left)) none;
+        still = subst IsUnasked (sym (ap (λ (step : Stepped ControllerState). step.state.trusting) same ∙ answers_here.stays c what now left)) unasked;
       }
 
 -- ---- an end hears something
@@ -218,7 +225,7 @@ controller_found (Some c) at what now ends chances is still told some =
       is = ap (λ (one : Stepped ControllerState). controller_done one at (erased_ends ends) chances) goes.is
           ∙ ap (λ (controllers : List ControllerState). record (controller_done step at ends chances) { ends = record (erased_ends ends) { controllers = controllers } })
           (set_mapped erased_controller ends.controllers at step.state);
-      still = put_each (λ (one : ControllerState). NoneIsAsked one.trusting) ends.controllers at step.state still goes.still;
+      still = put_each (λ (one : ControllerState). IsUnasked one.trusting) ends.controllers at step.state still goes.still;
     }
 
 member_found : (found : Option MemberState) (at : ℕ) (what : Event) (now : ℕ) (ends : EndStates) (chances : Drawing) → AreStill ends.controllers →
@@ -241,7 +248,7 @@ steps_plainly : (ends : EndStates) (at : ℕ) (what : Event) (now : ℕ) (chance
     controller_step (slice_get ends.controllers at) at what now ends chances ≡ plain_controller_step (slice_get ends.controllers at) at what now ends chances
 steps_plainly ends at what now chances still =
     controller_plain (slice_get ends.controllers at) at what now ends chances
-    (of_found CantSeal ends.controllers at (slice_get ends.controllers at) refl (λ c is. (still at c is).unsealing))
+    (of_found CantSeal ends.controllers at (slice_get ends.controllers at) refl (λ c is. (still at c is).none.unsealing))
 
 -- a controller that asks nobody can't seal, so its step is the plain one
 erased_plainly : (found : Option ControllerState) (at : ℕ) (what : Event) (now : ℕ) (ends : EndStates) (chances : Drawing) →
@@ -383,7 +390,7 @@ controller_same at what s c is still fine =
     let of : (told_trusts (plain_controller_step (Some c) at what s.moment s.ends s.chances).actions ≡ 0) × (1 ≤ length (plain_controller_step (Some c) at what s.moment s.ends s.chances).chances.left) =
     subst (λ (found : Option ControllerState). (told_trusts (plain_controller_step found at what s.moment s.ends s.chances).actions ≡ 0)
     × (1 ≤ length (plain_controller_step found at what s.moment s.ends s.chances).chances.left)) is good in
-    step_same c what s.moment s.chances.left (still.1 at c is) (answers_here.step c what s.moment s.chances.left (still.1 at c is)) of.0 of.1
+    step_same c what s.moment s.chances.left (still.1 at c is) (answers_here.step c what s.moment s.chances.left (still.1 at c is).none) of.0 of.1
 
 pub hears_if_same : (end : Option EndId) (what : Event) (s : State) → IsStill s → IsFine (hear_and_act_if end what s) →
     IsSame (hear_and_act_if end what s) (hear_and_act_if end what (erased s))
@@ -553,6 +560,9 @@ fresh_still : (hands_on : Bool) (table : AccountTable) (name : List ℕ) → Non
 fresh_still false table name = record { nobody = tt; none = refl; idle = refl; unsealing = refl }
 fresh_still true table name = answers_here.first table name
 
+fresh_unasked : (hands_on : Bool) (table : AccountTable) (name : List ℕ) → IsUnasked (fresh_controller hands_on false table name).trusting
+fresh_unasked hands_on table name = record { none = fresh_still hands_on table name; unused = fresh_unused hands_on false table name }
+
 record RenewsStill (ends other : EndStates) : Type 0 where
   is : other ≡ erased_ends ends
   still : AreStill ends.controllers
@@ -565,7 +575,7 @@ renew_found hands_on (Some c) at ends still =
     record {
       is = ap (λ (one : ControllerState). record (erased_ends ends) { controllers = slice_set (map erased_controller ends.controllers) at one }) (sym (fresh_erased hands_on c.table c.name))
           ∙ ap (λ (controllers : List ControllerState). record (erased_ends ends) { controllers = controllers }) (set_mapped erased_controller ends.controllers at new);
-      still = put_each (λ (one : ControllerState). NoneIsAsked one.trusting) ends.controllers at new still (fresh_still hands_on c.table c.name);
+      still = put_each (λ (one : ControllerState). IsUnasked one.trusting) ends.controllers at new still (fresh_unasked hands_on c.table c.name);
     }
 
 renew_member_same : (found : Option MemberPlan) (at : ℕ) (ends : EndStates) → AreStill ends.controllers → RenewsStill (renew_member found at ends) (renew_member found at (erased_ends ends))
@@ -659,7 +669,7 @@ still_each : (hands_on : Bool) (tables : List AccountTable) (names : List (List 
 still_each hands_on [] names at c is = absurd cc
 still_each hands_on (table ∷ tables) [] at c is = absurd cc
 still_each hands_on (table ∷ tables) (name ∷ names) zero c is =
-    subst (λ (one : ControllerState). NoneIsAsked one.trusting) (let same : fresh_controller hands_on false table name ≡ c = cc in same) (fresh_still hands_on table name)
+    subst (λ (one : ControllerState). IsUnasked one.trusting) (let same : fresh_controller hands_on false table name ≡ c = cc in same) (fresh_unasked hands_on table name)
 still_each hands_on (table ∷ tables) (name ∷ names) (suc at) c is = still_each hands_on tables names at c is
 
 pub first_still : (plan : Plan) → IsPlainPlan plan → IsStill (first_world plan).state

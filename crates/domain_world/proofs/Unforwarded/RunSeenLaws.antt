@@ -53,6 +53,14 @@ goes_same what moves w goes = sym (happens_same what w goes.still (goes_fine wha
 goes_first : (plan : Plan) (moves : List Move) → IsPlainPlan plan → IsUnforwarded plan moves → GoesOn moves (first_world plan)
 goes_first plan moves nothing is = record { still = first_still plan nothing; told = is.told; left = is.left }
 
+-- nobody is asked anything after it
+still_later : (moves : List Move) (w : World) → GoesOn moves w → IsStill (run moves w).state
+still_later [] w goes = goes.still
+still_later (what ∷ moves) w goes = still_later moves (happens w what) (goes_later what moves w goes)
+
+pub still_after : (plan : Plan) (moves : List Move) → IsPlainPlan plan → IsUnforwarded plan moves → IsStill (past plan moves).world.state
+still_after plan moves nothing is = still_later moves (first_world plan) (goes_first plan moves nothing is)
+
 -- ---- one at a time
 
 quiet_seen : (w : World) → IsQuiet w → IsQuiet (erased_world w)

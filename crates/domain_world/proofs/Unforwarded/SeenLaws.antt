@@ -10,7 +10,7 @@ use Rattle.wire_base.proofs.ListLaws.{all_weaker, one_weaker}
 use Rattle.domain_controller.specs.State.{State as ControllerState}
 use Rattle.member_server.specs.declared.plan.MemberPlan.{MemberPlan}
 use Rattle.step_notes.specs.ControllerNotes.{has_passed}
-use Rattle.step_notes.specs.Records.{ChallengeSent, ChannelAccepted, InUnit, Judging, MessageTaken, OfMember, OutcomeTold, RequesterId}
+use Rattle.step_notes.specs.Records.{ChallengeSent, ChannelAccepted, InUnit, Judging, MessageTaken, OfMember, OfTrust, OutcomeTold, RequesterId}
 use Rattle.world_moves.specs.declared.state.State.{State}
 use Rattle.world_moves.specs.Counting.{is_in}
 use Rattle.world_moves.specs.Ends.{EndStates}
@@ -20,7 +20,10 @@ use Rattle.domain_world.specs.Claims.{AcceptsAllGranted, AcceptsOnlyGranted, Has
 use Rattle.domain_world.specs.Claims.MarkedUnits.{IsMarkedAsReply, RepliesAreMarked}
 use Rattle.domain_world.specs.Claims.OpeningReplies.{AnswersOpening, IsMarkedAsOpened, OpeningsAreMarked, RepliesAreToOpenings}
 use Rattle.domain_world.specs.Claims.SharedSequences.{IsBeforeTurn, ChannelIsKept, SequenceIsOwn, SequenceIsShared, SequencesAreShared, ChannelStands, timestamps_on}
-use Rattle.domain_world.specs.Past.{Past}
+use Rattle.channel_client.specs.State.{Requester}
+use Rattle.channel_client.specs.declared.state.Standing.TheVariants as standing
+use Rattle.domain_world.specs.Past.{Past, requester_at}
+use Rattle.domain_world.proofs.Moves.FreshTrustLaws.{IsUnused}
 use Rattle.domain_world.proofs.Unforwarded.ErasedBookLaws.{asked_same}
 use Rattle.domain_world.proofs.Unforwarded.ErasedLaws.{get_mapped, peer_same}
 
@@ -145,8 +148,8 @@ once_so p x = λ nt hash.
 
 -- ---- sequences
 
-stands_seen : (s : State) (who : RequesterId) (channel : ChannelIdentity) (o : SecureChannelState) → ChannelStands s who channel o → ChannelStands (erased s) who channel o
-stands_seen s (OfMember member) channel o st = record {
+stands_seen : (s : State) (member : ℕ) (channel : ChannelIdentity) (o : SecureChannelState) → ChannelStands s (OfMember member) channel o → ChannelStands (erased s) (OfMember member) channel o
+stands_seen s member channel o st = record {
   requester = st.requester;
   at = st.at;
   open_so = st.open_so;
@@ -155,12 +158,20 @@ stands_seen s (OfMember member) channel o st = record {
   is_turn = st.is_turn;
 }
 
-turn_seen : (s : State) (who : RequesterId) (channel : ChannelIdentity) (o : SecureChannelState) (st : ChannelStands s who channel o) → (stands_seen s who channel o st).turn ≡ st.turn
+turn_seen : (s : State) (member : ℕ) (channel : ChannelIdentity) (o : SecureChannelState) (st : ChannelStands s (OfMember member) channel o) → (stands_seen s member channel o st).turn ≡ st.turn
 unfolding stands_seen
-turn_seen s (OfMember member) channel o st = refl
+turn_seen s member channel o st = refl
 
-own_one : (p : Past) (who : RequesterId) → SequenceIsOwn (seen p) who → SequenceIsOwn p who
-own_one p who x = λ channel o st. x channel o (stands_seen p.world.state who channel o st)
+own_one : (p : Past) (member : ℕ) → SequenceIsOwn (seen p) (OfMember member) → SequenceIsOwn p (OfMember member)
+own_one p member x = λ channel o st. x channel o (stands_seen p.world.state member channel o st)
+
+-- each that asks for a trust is as it was made, so that no channel stands there
+abbrev pub AreUnused : State → Type 0
+AreUnused s = (at trust : ℕ) (one : Requester) → requester_at s (OfTrust at trust) ≡ Some one → IsUnused one
+
+never_stands : (s : State) → AreUnused s → (at trust : ℕ) (channel : ChannelIdentity) (o : SecureChannelState) → ChannelStands s (OfTrust at trust) channel o → ⊥
+never_stands s unused at trust channel o st =
+    let never : standing.Nothing ≡ standing.Open o = ap (λ (one : Requester). one.standing) (unused at trust st.requester st.at).is ∙ st.open_so in cc
 
 kept_seen : (s : State) (controller : ℕ) (computer : List ℕ) (c : SecureChannelState) → ChannelIsKept s controller computer c → ChannelIsKept (erased s) controller computer c
 kept_seen s controller computer c k = record {
@@ -171,16 +182,20 @@ kept_seen s controller computer c k = record {
   kept = k.kept;
 }
 
-shared_one : (p : Past) (who : RequesterId) → SequenceIsShared (seen p) who → SequenceIsShared p who
-shared_one p who x = record {
-  own = own_one p who x.own;
+shared_one : (p : Past) → AreUnused p.world.state → (who : RequesterId) → SequenceIsShared (seen p) who → SequenceIsShared p who
+shared_one p unused (OfMember member) x = record {
+  own = own_one p member x.own;
   other = λ channel o c st keeps same foreign.
-      subst (λ (turn : Option Pending). (c.seed ≡ o.seed) ⊎ IsBeforeTurn turn c.seed channel (timestamps_on who channel p.book.turns)) (turn_seen p.world.state who channel o st)
-      (x.other channel o c (stands_seen p.world.state who channel o st) (kept_seen p.world.state channel.controller channel.computer c keeps) same foreign);
+      subst (λ (turn : Option Pending). (c.seed ≡ o.seed) ⊎ IsBeforeTurn turn c.seed channel (timestamps_on (OfMember member) channel p.book.turns)) (turn_seen p.world.state member channel o st)
+      (x.other channel o c (stands_seen p.world.state member channel o st) (kept_seen p.world.state channel.controller channel.computer c keeps) same foreign);
+}
+shared_one p unused (OfTrust at trust) x = record {
+  own = λ channel o st. absurd (never_stands p.world.state unused at trust channel o st);
+  other = λ channel o c st keeps same foreign. absurd (never_stands p.world.state unused at trust channel o st);
 }
 
-pub shared_so : (p : Past) → SequencesAreShared (seen p) → SequencesAreShared p
-shared_so p x = λ who. shared_one p who (x who)
+pub shared_so : (p : Past) → AreUnused p.world.state → SequencesAreShared (seen p) → SequencesAreShared p
+shared_so p unused x = λ who. shared_one p unused who (x who)
 
 -- ---- the calls of turns
 
@@ -202,7 +217,13 @@ calls_so p channel turn timestamps c = record {
   far = so_far p turn c.made timestamps c.far;
 }
 
-pub called_so : (p : Past) → TurnsAreCalled (seen p) → TurnsAreCalled p
-called_so p x = λ who channel o st.
-    subst (λ (turn : Option Pending). CallsOfTurns p channel turn (timestamps_on who channel p.book.turns)) (turn_seen p.world.state who channel o st)
-    (calls_so p channel (stands_seen p.world.state who channel o st).turn (timestamps_on who channel p.book.turns) (x who channel o (stands_seen p.world.state who channel o st)))
+called_one : (p : Past) → AreUnused p.world.state → (who : RequesterId) (channel : ChannelIdentity) (o : SecureChannelState) (st : ChannelStands p.world.state who channel o) → TurnsAreCalled (seen p) →
+    CallsOfTurns p channel st.turn (timestamps_on who channel p.book.turns)
+called_one p unused (OfMember member) channel o st x =
+    subst (λ (turn : Option Pending). CallsOfTurns p channel turn (timestamps_on (OfMember member) channel p.book.turns)) (turn_seen p.world.state member channel o st)
+    (calls_so p channel (stands_seen p.world.state member channel o st).turn (timestamps_on (OfMember member) channel p.book.turns)
+    (x (OfMember member) channel o (stands_seen p.world.state member channel o st)))
+called_one p unused (OfTrust at trust) channel o st x = absurd (never_stands p.world.state unused at trust channel o st)
+
+pub called_so : (p : Past) → AreUnused p.world.state → TurnsAreCalled (seen p) → TurnsAreCalled p
+called_so p unused x = λ who channel o st. called_one p unused who channel o st x

@@ -1,7 +1,7 @@
 -- What is below the premises of the claims on answers (`Answered`): of each unit of the bag that its bytes are those of
 -- one whole unit, of each mark what a unit with that mark is, and of each message which calls were made for it and in
 -- which turn its answer was taken. From these follow three of the eight premises (`CarriedCallsAreHeard`).
-use Rattle.std.specs.Prelude.{ℕ, ◌≡◌, ◌%◌, ◌^◌, true, false, List, Some, Ok, slice_get, ◌⊎◌, ◌<◌}
+use Rattle.std.specs.Prelude.{ℕ, ◌≡◌, ◌%◌, ◌^◌, true, false, List, Option, Some, None, Ok, slice_get, ◌⊎◌, ◌<◌}
 use Rattle.std.specs.List.{AllByRecursion}
 use Rattle.wire_base.specs.declared.authenticator.Authenticator.{Authenticator}
 use Rattle.authenticators.specs.Channels.{ChannelIdentity, SameChannel}
@@ -21,9 +21,14 @@ use Rattle.end_links.specs.Sending.{request_of}
 use Rattle.wire_base.specs.Lists.{OneOf}
 use Rattle.channel_events.specs.Marks.{Mark, Plain, Opening, Opened, Calling, ReplyTo}
 use Rattle.step_notes.specs.Marking.{sent_channel}
-use Rattle.step_notes.specs.Records.{CallTaken, InUnit, Judging, MessageTaken, OfMember, RequesterId, Sent}
+use Rattle.step_notes.specs.Records.{CallTaken, InUnit, Judging, MessageTaken, OfMember, OfTrust, RequesterId, Sent}
 use Rattle.controller_calls.specs.declared.calls.JudgedCall.{JudgedCall}
+use Rattle.account_table.specs.AccountTable.{AccountTable}
+use Rattle.account_table.specs.declared.account.Trust.{Trust}
 use Rattle.world_moves.specs.declared.bag.BagUnit.{BagUnit}
+use Rattle.world_moves.specs.declared.links.EndId.TheVariants.{Controller}
+use Rattle.world_moves.specs.Ends.{EndStates}
+use Rattle.world_moves.specs.Moving.{end_of_peer}
 use Rattle.domain_world.specs.Claims.OpeningReplies.{RepliesAreToOpenings}
 use Rattle.domain_world.specs.Claims.RequestNumbers.{RequestsHaveNumbers}
 use Rattle.secret_change.specs.Calls.{set_reply_of}
@@ -122,9 +127,20 @@ abbrev pub MessagesAreCalled : Past → Type 0
 MessagesAreCalled past =
     AllByRecursion (λ (message : MessageTaken). (n : ℕ) → message.call ≡ Some n → IsCalledFor past message n) past.book.messages
 
+-- the trust of that number, in the order of a table
+abbrev pub entry_in : ℕ → Option AccountTable → Option Trust
+entry_in trust None = None
+entry_in trust (Some table) = slice_get table.trusts trust
+
+-- the controller is at the address of a trust
+abbrev pub HasTrusted : Option Trust → EndStates → ℕ → Type 0
+HasTrusted None ends controller = ⊥
+HasTrusted (Some trust) ends controller = end_of_peer trust.address ends ≡ Some (Controller controller)
+
 -- the controller is that of which that requester asks
 abbrev pub AsksOf : RequesterId → Past → ℕ → Type 0
 AsksOf (OfMember member) past controller = HasController (slice_get past.plan.members member) past.world.state.ends controller
+AsksOf (OfTrust asking trust) past controller = HasTrusted (entry_in trust (slice_get past.plan.tables asking)) past.world.state.ends controller
 
 -- The answer was taken in the turn of its call, whoever asked: on a channel that stood, with the controller of which
 -- the requester asks, on which the call had gone out with that number; and it came back on the turn's link, has the

@@ -17,7 +17,7 @@ use Rattle.member_server.specs.Trying.{TriesUnlessStopped}
 use Rattle.member_server.specs.declared.plan.MemberPlan.{MemberPlan}
 use Rattle.member_server.specs.declared.state.Running.{Running as MemberRunning}
 use Rattle.step_notes.specs.ControllerNotes.{has_passed}
-use Rattle.step_notes.specs.Records.{InUnit, Judging, OfMember, Outside, RequesterId, Source}
+use Rattle.step_notes.specs.Records.{InUnit, Judging, OfMember, OfTrust, Outside, RequesterId, Source}
 use Rattle.world_moves.specs.declared.links.EndId.TheVariants.{Controller}
 use Rattle.world_moves.specs.declared.moves.Move.{Move}
 use Rattle.world_moves.specs.declared.plan.Plan.{Plan}
@@ -44,9 +44,11 @@ has_foreign_set judged = list_any is_foreign_set judged
 
 -- ---- at the start
 
--- the computer as which who asks does so
+-- The computer as which a member asks. Of a controller that asks another one none is said: in a run of which this is
+-- claimed no controller does.
 abbrev pub computer_of : Plan → RequesterId → Option (List ℕ)
 computer_of plan (OfMember member) = option_map (λ (own : MemberPlan). own.computer) (slice_get plan.members member)
+computer_of plan (OfTrust controller trust) = None
 
 -- The member has one secret, which is the hash of its computer's account at its controller, and nobody else asks under
 -- the name of its computer. That the account isn't changed otherwise needs no word: in a world calls that set a secret

@@ -13,7 +13,7 @@ use Rattle.member_server.specs.State.{State as MemberState}
 use Rattle.wire_base.specs.Lists.{OneOf}
 use Rattle.wire_base.proofs.ListLaws.{all_weaker, one_weaker}
 use Rattle.step_notes.specs.Marking.{sent_channel}
-use Rattle.step_notes.specs.Records.{Book, CallTaken, MessageTaken, OfMember, OutcomeTold, RequesterId, Sent}
+use Rattle.step_notes.specs.Records.{Book, CallTaken, MessageTaken, OfMember, OfTrust, OutcomeTold, RequesterId, Sent}
 use Rattle.step_notes.proofs.Members.KeptLogonLaws.{KeptIn, one_before}
 use Rattle.world_moves.specs.declared.bag.BagUnit.{BagUnit}
 use Rattle.world_moves.specs.declared.plan.Plan.{Plan}
@@ -22,7 +22,8 @@ use Rattle.world_moves.specs.Counting.{is_in}
 use Rattle.world_moves.specs.Ends.{EndStates, end_at, end_in}
 use Rattle.world_moves.specs.Moving.{end_of_peer}
 use Rattle.world_moves.specs.World.{World}
-use Rattle.domain_world.specs.Accepting.Carried.{AsksOf, IsAnswerFor, IsTakenInTurn}
+use Rattle.domain_world.specs.Accepting.Carried.{AsksOf, HasTrusted, IsAnswerFor, IsTakenInTurn, entry_in}
+use Rattle.account_table.specs.declared.account.Trust.{Trust}
 use Rattle.domain_world.specs.Accepting.ReadBack.{IsLetInInTurn, IsReadIn, IsToldInTurn}
 use Rattle.domain_world.specs.Claims.{HasController}
 use Rattle.domain_world.specs.Past.{Past}
@@ -159,6 +160,10 @@ pub controller_stays : (found : Option MemberPlan) (one other : EndStates) (cont
 controller_stays None one other controller same has = has
 controller_stays (Some plan) one other controller same has = sym (peer_same one other plan.controller same) ∙ has
 
+trusted_stays : (found : Option Trust) (one other : EndStates) (controller : ℕ) → SameEnds one other → HasTrusted found one controller → HasTrusted found other controller
+trusted_stays None one other controller same has = has
+trusted_stays (Some trust) one other controller same has = sym (peer_same one other trust.address same) ∙ has
+
 -- a plan, a world and a book as a past
 abbrev pub past_of : Plan → World → Book → Past
 past_of plan world b = record { plan = plan; world = world; book = b }
@@ -166,6 +171,7 @@ past_of plan world b = record { plan = plan; world = world; book = b }
 module _ (plan : Plan) (v w : World) (b d : Book) (grows : GrowsTo v.state w.state b d) where
   asks_stay : (who : RequesterId) (controller : ℕ) → AsksOf who (past_of plan v b) controller → AsksOf who (past_of plan w d) controller
   asks_stay (OfMember member) controller asks = controller_stays (slice_get plan.members member) v.state.ends w.state.ends controller grows.ends asks
+  asks_stay (OfTrust asking trust) controller asks = trusted_stays (entry_in trust (slice_get plan.tables asking)) v.state.ends w.state.ends controller grows.ends asks
 
   pub taken_stays : (taken : CallTaken) → IsTakenInTurn (past_of plan v b) taken → IsTakenInTurn (past_of plan w d) taken
   taken_stays taken is =

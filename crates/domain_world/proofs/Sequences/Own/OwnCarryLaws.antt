@@ -35,12 +35,12 @@ use Rattle.domain_world.proofs.Frames.EventLaws.{by_no_bytes}
 use Rattle.domain_world.proofs.Moves.NoBytesLaws.{IsNoBytes}
 use Rattle.domain_world.proofs.Calls.CallHoldsLaws.{marks_in}
 use Rattle.domain_world.proofs.Sequences.DialCountLaws.{given_append, given_dials, given_other}
-use Rattle.domain_world.proofs.Sequences.Own.OwnFrameLaws.{text_dials, StillDrawn, mine_drawn}
+use Rattle.domain_world.proofs.Sequences.Own.OwnFrameLaws.{text_dials, StillDrawn}
 use Rattle.domain_world.proofs.Sequences.Own.OwnKeepLaws.{OwnHolds}
 use Rattle.domain_world.proofs.Sequences.Own.OwnStayLaws.{one_stays, HearsIf, NoNewCalls, OwnFacts, all_stay, on_any, OwnBy, OwnOf, own_put}
 use Rattle.domain_world.proofs.Sequences.Own.OwnTurnLaws.{AreDrawn, mine}
 use Rattle.domain_world.proofs.Sequences.SeedTurnLaws.{turned_blank}
-use Rattle.domain_world.proofs.Moves.RequesterLaws.{asking_end, not_client, asker_in, asker_first}
+use Rattle.domain_world.proofs.Moves.RequesterLaws.{not_client, asker_in, asker_first}
 use Rattle.world_moves.proofs.ChangeLaws.{by_change, member_begun, text_begun}
 use Rattle.world_moves.specs.Plain.{plain_world, renew_plain_member as renew_member}
 
@@ -67,14 +67,14 @@ module _ (plan : Plan) where
       let drawn : t.chances.drawn ≡ s.chances.drawn = ap (λ (c : Drawing). c.drawn) chances in
       let grows : GrowsTo s t b b = record { bag = bag; sent = λ k one there. there; ends = subst (λ (x : EndStates). SameEnds s.ends x) (sym ends) (same_ends s.ends) } in
       all_stay plan s t b b plans grows given given (subst (λ (ds : List (List ℕ)). StillDrawn s.chances.drawn ds) (sym drawn) (λ challenge was. was)) refl
-      (ap (λ (e : EndStates). e.members) ends) (λ who. refl) (λ n number timestamp e there. there) (known few unclashed apart (marks_before s t b b grows marks) (subst Differ drawn differ))
+      (ap (λ (e : EndStates). e.members) ends) (λ k. refl) (λ n number timestamp e there. there) (known few unclashed apart (marks_before s t b b grows marks) (subst Differ drawn differ))
 
   -- the book changes, and no call is written down
   pub book_changed : (n : ℕ) (t : State) (given : Given) (b d : Book) → ((k : ℕ) (one : Sent) → slice_get b.sent k ≡ Some one → slice_get d.sent k ≡ Some one) → (d.clash ≡ false → b.clash ≡ false) →
       (AreApart (links_in d.messages) → AreApart (links_in b.messages)) → d.turns ≡ b.turns → NoNewCalls (marks_in b.sent) (marks_in d.sent) → OwnHolds plan n t given b → OwnHolds plan n t given d
   book_changed n t given b d grown clash messages turns none known few unclashed apart marks differ =
       let grows : GrowsTo t t b d = record { bag = kept_same t.bag; sent = grown; ends = same_ends t.ends } in
-      all_stay plan t t b d refl grows given given (λ challenge was. was) turns refl (λ who. refl) none
+      all_stay plan t t b d refl grows given given (λ challenge was. was) turns refl (λ k. refl) none
       (known few (clash unclashed) (messages apart) (marks_before t t b d grows marks) differ)
 
   -- ---- a client begins
@@ -90,12 +90,12 @@ module _ (plan : Plan) where
         ends = record { controllers = refl; members = refl; clients = sym (length-set s.ends.clients client _); stations = refl };
       } in
       all_stay plan s t b b refl grows given (given ++ given_by (Client client) actions) (λ challenge was. was) refl refl
-      (λ who. omega (arith, given_append (asking_end who) given (given_by (Client client) actions), given_other (asking_end who) (Client client) actions (not_client who client))) (λ n number timestamp e there. there)
+      (λ k. omega (arith, given_append (Member k) given (given_by (Client client) actions), given_other (Member k) (Client client) actions (not_client k client))) (λ n number timestamp e there. there)
       (known (omega (arith, few)) unclashed apart (marks_before s t b b grows marks) differ)
 
   -- ---- an end is made anew
 
-  fresh_own : (Done : ℕ → Type 0) (marks : List Mark) (drawn : List (List ℕ)) (turns : List ChannelTurn) (given : Given) (controller : ℕ) (who : RequesterId) (own : MemberPlan) → AreDrawn drawn turns →
+  fresh_own : (Done : ℕ → Type 0) (marks : List Mark) (drawn : List (List ℕ)) (turns : List ChannelTurn) (given : Given) (controller : ℕ) (who : RequesterId) (own : MemberPlan) → AreDrawn drawn (mine who turns) →
       OwnBy Done marks drawn turns given controller who (fresh_member own).running
   fresh_own Done marks drawn turns given controller who own before = (
     asks_what_waits.fresh own,
@@ -103,7 +103,7 @@ module _ (plan : Plan) where
       own = mine who turns;
       none = λ none. refl;
       one = λ one waits. absurd waits;
-      before = mine_drawn who drawn turns before;
+      before = before;
       turned = turned_blank _ _ drawn refl refl;
       calls = λ c is. absurd (let x = is in cc);
     },
@@ -112,7 +112,7 @@ module _ (plan : Plan) where
   module _ (s : State) (given : Given) (b : Book) where
     others_same : (ends : EndStates) → ends.members ≡ s.ends.members → SameEnds s.ends ends → OwnFacts plan s given b → OwnFacts plan (record s { ends = ends }) given b
     others_same ends members same old =
-        all_stay plan s (record s { ends = ends }) b b refl (record { bag = kept_same s.bag; sent = λ k one there. there; ends = same }) given given (λ challenge was. was) refl members (λ who. refl)
+        all_stay plan s (record s { ends = ends }) b b refl (record { bag = kept_same s.bag; sent = λ k one there. there; ends = same }) given given (λ challenge was. was) refl members (λ k. refl)
         (λ n number timestamp e there. there) old
 
     member_anew : (own : MemberPlan) (at : ℕ) → SameEnds s.ends (renew_member (Some own) at s.ends) → OwnFacts plan s given b →
@@ -123,8 +123,8 @@ module _ (plan : Plan) where
         record {
           before = old.before;
           asks = own_put plan s t b b refl grows given given (λ challenge was. was) refl at (fresh_member own)
-              (fresh_own (IsTakenFor (past_at plan t b)) (marks_in b.sent) s.chances.drawn b.turns given (controller_asked (OfMember at) t) (OfMember at) own old.before) (λ who differs. refl)
-              (λ who differs. on_any plan s t b b refl grows (controller_asked who s) (asker_in who s.ends) (λ n number timestamp e is. is)) old;
+              (fresh_own (IsTakenFor (past_at plan t b)) (marks_in b.sent) s.chances.drawn b.turns given (controller_asked (OfMember at) t) (OfMember at) own (old.before at)) (λ k differs. refl)
+              (λ k differs. on_any plan s t b b refl grows (controller_asked (OfMember k) s) (asker_in k s.ends) (λ n number timestamp e is. is)) old;
         }
 
     end_anew : (end : EndId) → OwnFacts plan s given b → OwnFacts plan (renewed end s) given b
@@ -160,18 +160,18 @@ module _ (plan : Plan) where
         let more : Given = given ++ given_by (Member at) (text_begun secret running) in
         let grows : GrowsTo s t b b = record { bag = kept_same s.bag; sent = λ k one there. there; ends = same } in
         let still : StillDrawn s.chances.drawn t.chances.drawn = λ challenge was. was in
-        let count : (who : RequesterId) → given_dials (asking_end who) more ≡ given_dials (asking_end who) given =
-        λ who. omega (arith, given_append (asking_end who) given (given_by (Member at) (text_begun secret running)), text_dials who at secret running) in
+        let count : (k : ℕ) → given_dials (Member k) more ≡ given_dials (Member k) given =
+        λ k. omega (arith, given_append (Member k) given (given_by (Member at) (text_begun secret running)), text_dials (OfMember k) at secret running) in
         let was : OwnOf plan s given b (OfMember at) (Some running) =
-        subst (λ (found : Option MemberState). OwnOf plan s given b (OfMember at) (running_in found)) is (old.asks (OfMember at)) in
+        subst (λ (found : Option MemberState). OwnOf plan s given b (OfMember at) (running_in found)) is (old.asks at) in
         let own : OwnOf plan t more b (OfMember at) (Some running) =
-        one_stays plan s t b b refl grows given more still refl (OfMember at) (Some running) (count (OfMember at))
+        one_stays plan s t b b refl grows given more still refl at (Some running) (count at)
         (on_any plan s t b b refl grows (controller_asked (OfMember at) s) (Some running) (λ n number timestamp e there. there)) was in
         record {
           before = old.before;
           asks = own_put plan s t b b refl grows given more still refl at (member_begun secret running)
-              (changed_own (IsTakenFor (past_at plan t b)) (marks_in b.sent) t.chances.drawn b.turns more (controller_asked (OfMember at) t) (OfMember at) secret running own) (λ who differs. count who)
-              (λ who differs. on_any plan s t b b refl grows (controller_asked who s) (asker_in who s.ends) (λ n number timestamp e there. there)) old;
+              (changed_own (IsTakenFor (past_at plan t b)) (marks_in b.sent) t.chances.drawn b.turns more (controller_asked (OfMember at) t) (OfMember at) secret running own) (λ k differs. count k)
+              (λ k differs. on_any plan s t b b refl grows (controller_asked (OfMember k) s) (asker_in k s.ends) (λ n number timestamp e there. there)) old;
         }
 
     end_changed : (at : ℕ) (secret : List ℕ) → OwnFacts plan s given b → OwnFacts plan (begun_change at secret s).state (given ++ given_by (Member at) (begun_change at secret s).actions) b
@@ -191,7 +191,7 @@ module _ (plan : Plan) where
   first_own few unclashed apart marks differ =
       let s : State = (plain_world plan).state in
       record {
-        before = tt;
-        asks = asker_first (OwnOf plan s [] blank) plan (λ who. (tt, tt))
-            (λ who own. fresh_own (IsTakenFor (past_at plan s blank)) [] s.chances.drawn [] [] (controller_asked who s) who own tt);
+        before = λ k. tt;
+        asks = asker_first (λ (k : ℕ). OwnOf plan s [] blank (OfMember k)) plan (λ k. (tt, tt))
+            (λ k own. fresh_own (IsTakenFor (past_at plan s blank)) [] s.chances.drawn [] [] (controller_asked (OfMember k) s) (OfMember k) own tt);
       }

@@ -3,7 +3,7 @@
 use Rattle.std.proofs.Common.{ℕ, List, [], Option, Some, None, refl, subst, arith}
 use Rattle.member_server.specs.declared.state.Running.{Running}
 use Rattle.channel_events.specs.Marks.{Mark}
-use Rattle.step_notes.specs.Records.{Book, ChannelTurn, RequesterId}
+use Rattle.step_notes.specs.Records.{Book, ChannelTurn, OfMember, RequesterId}
 use Rattle.world_moves.specs.declared.state.State.{State}
 use Rattle.domain_world.specs.Accepting.Sequences.{IsTakenFor, TurnsAreCalled}
 use Rattle.domain_world.specs.Claims.{IsClear}
@@ -30,6 +30,7 @@ use Rattle.domain_world.proofs.Sequences.Own.OwnTurnLaws.{mine}
 use Rattle.domain_world.proofs.Sequences.Own.OwnWalkLaws.{own_keeps}
 use Rattle.domain_world.proofs.Sequences.Own.OwnWholeLaws.{own_comes}
 use Rattle.domain_world.proofs.Sequences.SharedLaws.{taken_pass}
+use Rattle.domain_world.proofs.Moves.NoTrustLaws.{none_asked}
 use Rattle.domain_world.proofs.Moves.RequesterLaws.{asker_in}
 
 -- after a move
@@ -55,10 +56,10 @@ turns_are_called plan moves nobody schedule clear =
     let facts : OwnFacts plan s [] b =
     after.holds.1 (omega (arith, after.few, schedule.few)) clear.apart (apart_from b.messages (messages_apart plan moves nobody.plain)) (marks_known plan moves nobody) (draws_differ plan moves) in
     let all : AllKnow (IsTakenFor (past_at plan s b)) s b =
-    λ who. known_if (IsTakenFor (past_at plan s b)) (marks_in b.sent) s.chances.drawn b.turns (controller_asked who s) who (asker_in who s.ends) (facts.asks who) in
+    λ k. known_if (IsTakenFor (past_at plan s b)) (marks_in b.sent) s.chances.drawn b.turns (controller_asked (OfMember k) s) (OfMember k) (asker_in k s.ends) (facts.asks k) in
     turns_called p (IsTakenFor (past_at plan s b))
     (λ n is. taken_pass plan moves nobody (units_heard plan moves nobody schedule) clear.apart n (record {
       taken = is.taken;
       call = is.call;
       turn = taken_stays plan (world_in s) p.world b b (record { bag = kept_same s.bag; sent = λ k one there. there; ends = same_ends s.ends }) is.taken is.turn;
-    })) all
+    })) (none_asked plan moves nobody) all

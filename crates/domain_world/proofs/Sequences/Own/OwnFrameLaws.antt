@@ -1,6 +1,6 @@
 -- What is known of members and of their turns is kept through all that happens in a run.
 -- It serves `Proved.own`.
-use Rattle.std.proofs.Common.{◌≡◌, ℕ, ◌≤◌, Bool, true, false, List, [], ◌∷◌, ◌++◌, inl, inr, Option, Some, None, slice_get, slice_set, refl, sym, ap, subst, arith, if◌then◌else◌}
+use Rattle.std.proofs.Common.{◌≡◌, ℕ, ◌≤◌, List, [], ◌++◌, inl, inr, Option, Some, None, slice_get, slice_set, refl, sym, ap, subst, arith}
 use Rattle.std.proofs.lemmas.List.{length-set}
 use Rattle.outside.specs.Drawing.{Drawing}
 use Rattle.outside.specs.Machine.{Stepped}
@@ -16,7 +16,7 @@ use Rattle.member_server.specs.State.{State as MemberState}
 use Rattle.member_server.specs.declared.plan.MemberPlan.{MemberPlan}
 use Rattle.member_server.specs.declared.state.Running.{Running}
 use Rattle.step_notes.specs.MemberNotes.{turn_of}
-use Rattle.step_notes.specs.Records.{ChannelTurn, OfMember, same_requester, RequesterId}
+use Rattle.step_notes.specs.Records.{ChannelTurn, OfMember, RequesterId}
 use Rattle.world_moves.specs.declared.links.EndId.{EndId}
 use Rattle.world_moves.specs.declared.links.EndId.TheVariants.{Controller, Member, Client}
 use Rattle.world_moves.specs.declared.state.State.{State}
@@ -41,21 +41,12 @@ use Rattle.world_moves.specs.Moving.{changed}
 -- ---- what is known
 
 pub record TurnsHold (d : Option EndId) (rest : Given) (plans : List MemberPlan) (ends : EndStates) (dials : List WaitingDial) (drawn : List (List ℕ)) (given : Given) (turns : List ChannelTurn) : Type 0 where
-  pub before : AreDrawn drawn turns
-  pub asks : (who : RequesterId) → TurnsIf who (asked_in who plans ends) d rest dials drawn given turns (asker_in who ends)
+  pub before : (k : ℕ) → AreDrawn drawn (mine (OfMember k) turns)
+  pub asks : (k : ℕ) → TurnsIf (OfMember k) (asked_in k plans ends) d rest dials drawn given turns (asker_in k ends)
 
 -- where the draws differ
 abbrev pub TurnsKnown : DialFact
 TurnsKnown d rest plans ends dials chances given turns = Differ chances.drawn → TurnsHold d rest plans ends dials chances.drawn given turns
-
-mine_one : (hit : Bool) (who : RequesterId) (drawn : List (List ℕ)) (turn : ChannelTurn) (turns : List ChannelTurn) → AreDrawn drawn (turn ∷ turns) → AreDrawn drawn (mine who turns) →
-    AreDrawn drawn (if hit then turn ∷ mine who turns else mine who turns)
-mine_one true who drawn turn turns all later = (all.0, later)
-mine_one false who drawn turn turns all later = later
-
-pub mine_drawn : (who : RequesterId) (drawn : List (List ℕ)) (turns : List ChannelTurn) → AreDrawn drawn turns → AreDrawn drawn (mine who turns)
-mine_drawn who drawn [] all = tt
-mine_drawn who drawn (turn ∷ turns) all = mine_one (same_requester turn.requester who) who drawn turn turns all (mine_drawn who drawn turns all.1)
 
 -- more may be drawn
 abbrev pub StillDrawn : List (List ℕ) → List (List ℕ) → Type 0
@@ -102,19 +93,19 @@ module _ (plans : List MemberPlan) (ends : EndStates) (dials : List WaitingDial)
       (omega (arith, given_append (asking_end who) (given_by end actions) rest, none, less who)) (less who) (omega (arith, given_append (asking_end who) given (given_by end actions), none)) still old
 
   others_hold : (now : EndStates) (end : EndId) (actions : List Action) (drawn after : List (List ℕ)) → now.members ≡ ends.members → SameNumbers ends now →
-      ((who : RequesterId) → given_dials (asking_end who) (given_by end actions) ≡ 0) → StillDrawn drawn after → Before drawn →
+      ((k : ℕ) → given_dials (Member k) (given_by end actions) ≡ 0) → StillDrawn drawn after → Before drawn →
       TurnsHold later (given_by end actions ++ rest) plans now dials after (given ++ given_by end actions) turns
   others_hold now end actions drawn after same numbers none still holds = record {
-    before = still_drawn drawn after turns still holds.before;
-    asks = λ who.
-        asker_same (λ (c : ℕ) (r : Option Running). TurnsIf who c later (given_by end actions ++ rest) dials after (given ++ given_by end actions) turns r) who plans ends now same numbers
-        (one_other who (asked_in who plans ends) end actions drawn after (asker_in who ends) (none who) still (holds.asks who));
+    before = λ k. still_drawn drawn after (mine (OfMember k) turns) still (holds.before k);
+    asks = λ k.
+        asker_same (λ (c : ℕ) (r : Option Running). TurnsIf (OfMember k) c later (given_by end actions ++ rest) dials after (given ++ given_by end actions) turns r) k plans ends now same numbers
+        (one_other (OfMember k) (asked_in k plans ends) end actions drawn after (asker_in k ends) (none k) still (holds.asks k));
   }
 
   -- an end that isn't there does nothing
   nothing_heard : (end : EndId) (drawn : List (List ℕ)) → Before drawn → TurnsHold later (given_by end [] ++ rest) plans ends dials drawn (given ++ given_by end []) turns
   nothing_heard end drawn holds =
-      others_hold ends end [] drawn drawn refl (record { controllers = refl; members = refl; clients = refl; stations = refl }) (λ who. refl) (λ challenge is. is) holds
+      others_hold ends end [] drawn drawn refl (record { controllers = refl; members = refl; clients = refl; stations = refl }) (λ k. refl) (λ challenge is. is) holds
 
   abbrev Heard : EndId → EndStep → Type 0
   Heard end step = TurnsKnown later (given_by end step.actions ++ rest) plans step.ends dials step.chances (given ++ given_by end step.actions) turns
@@ -124,14 +115,14 @@ module _ (plans : List MemberPlan) (ends : EndStates) (dials : List WaitingDial)
   controller_hears step at chances known differ =
       others_hold (record ends { controllers = slice_set ends.controllers at step.state }) (Controller at) (actions_by step.answer) chances.drawn (chances.drawn ++ step.drawn) refl
       (record { controllers = length-set ends.controllers at step.state; members = refl; clients = refl; stations = refl })
-      (λ who. given_other (asking_end who) (Controller at) (actions_by step.answer) (not_controller who at)) (λ challenge is. drawn_still challenge chances.drawn step.drawn is)
+      (λ k. given_other (Member k) (Controller at) (actions_by step.answer) (not_controller k at)) (λ challenge is. drawn_still challenge chances.drawn step.drawn is)
       (known (differ_front chances.drawn step.drawn differ))
 
   client_hears : (step : Stepped ClientState) (at : ℕ) (chances : Drawing) → (Differ chances.drawn → Before chances.drawn) → Heard (Client at) (client_done step at ends chances)
   client_hears step at chances known differ =
       others_hold (record ends { clients = slice_set ends.clients at step.state }) (Client at) (actions_by step.answer) chances.drawn (chances.drawn ++ step.drawn) refl
       (record { controllers = refl; members = refl; clients = length-set ends.clients at step.state; stations = refl })
-      (λ who. given_other (asking_end who) (Client at) (actions_by step.answer) (not_client who at)) (λ challenge is. drawn_still challenge chances.drawn step.drawn is)
+      (λ k. given_other (Member k) (Client at) (actions_by step.answer) (not_client k at)) (λ challenge is. drawn_still challenge chances.drawn step.drawn is)
       (known (differ_front chances.drawn step.drawn differ))
 
   member_hears : (m : MemberState) (at : ℕ) (what : Event) (now : ℕ) (chances : Drawing) → slice_get ends.members at ≡ Some m →
@@ -143,16 +134,16 @@ module _ (plans : List MemberPlan) (ends : EndStates) (dials : List WaitingDial)
       let holds : Before chances.drawn = known (differ_front chances.drawn step.drawn differ) in
       let still : StillDrawn chances.drawn after = λ challenge was. drawn_still challenge chances.drawn step.drawn was in
       record {
-        before = still_drawn chances.drawn after turns still holds.before;
+        before = λ k. still_drawn chances.drawn after (mine (OfMember k) turns) still (holds.before k);
         asks = asked_put
-            (λ (who : RequesterId) (c : ℕ) (r : Option Running).
-            TurnsIf who c later (given_by (Member at) actions ++ rest) dials after (given ++ given_by (Member at) actions) turns r) plans at step.state ends (λ who c. tt)
-            (own_step (OfMember at) (asked_in (OfMember at) plans ends) turns m.running what now chances.left d later rest dials chances.drawn given answers
-            (subst (λ (found : Option MemberState). TurnsIf (OfMember at) (asked_in (OfMember at) plans ends) d rest dials chances.drawn given turns (running_in found)) is (holds.asks (OfMember at)))
-            (mine_drawn (OfMember at) chances.drawn turns holds.before) differ)
-            (λ who differs.
-            one_other who (asked_in who plans ends) (Member at) actions chances.drawn after (asker_in who ends) (given_other (asking_end who) (Member at) actions (not_that who at differs)) still
-            (holds.asks who));
+            (λ (k : ℕ) (c : ℕ) (r : Option Running).
+            TurnsIf (OfMember k) c later (given_by (Member at) actions ++ rest) dials after (given ++ given_by (Member at) actions) turns r) plans at step.state ends (λ k c. tt)
+            (own_step (OfMember at) (asked_in at plans ends) turns m.running what now chances.left d later rest dials chances.drawn given answers
+            (subst (λ (found : Option MemberState). TurnsIf (OfMember at) (asked_in at plans ends) d rest dials chances.drawn given turns (running_in found)) is (holds.asks at))
+            (holds.before at) differ)
+            (λ k differs.
+            one_other (OfMember k) (asked_in k plans ends) (Member at) actions chances.drawn after (asker_in k ends) (given_other (Member k) (Member at) actions (not_that k at differs)) still
+            (holds.asks k));
       }
 
 -- an end hears something
@@ -177,7 +168,7 @@ pub begin_holds : (client : ℕ) (state : ClientState) (actions : List Action) (
     TurnsKnown None (given_by (Client client) actions ++ []) plans (with_client client state ends) dials chances (given_by (Client client) actions) turns
 begin_holds client state actions plans ends dials chances turns known differ =
     others_hold plans ends dials None None [] [] turns (λ who. omega arith) (with_client client state ends) (Client client) actions chances.drawn chances.drawn refl
-    (record { controllers = refl; members = refl; clients = length-set ends.clients client state; stations = refl }) (λ who. given_other (asking_end who) (Client client) actions (not_client who client)) (λ challenge is. is) (known differ)
+    (record { controllers = refl; members = refl; clients = length-set ends.clients client state; stations = refl }) (λ k. given_other (Member k) (Client client) actions (not_client k client)) (λ challenge is. is) (known differ)
 
 -- ---- a member begins to change its secret
 
@@ -206,17 +197,17 @@ change_holds at secret s turns known differ =
     by_change (λ (ends : EndStates) (actions : List Action). TurnsHold None (given_by (Member at) actions ++ []) plans ends s.dials s.chances.drawn (given_by (Member at) actions) turns) at secret s.ends holds
     (λ running is none.
     (let actions : List Action = text_begun secret running in
-    let one : (who : RequesterId) (c : ℕ) (r : Option Running) → TurnsIf who c None [] s.dials s.chances.drawn [] turns r →
-    TurnsIf who c None (given_by (Member at) actions ++ []) s.dials s.chances.drawn (given_by (Member at) actions) turns r =
-    λ who c r old.
-    one_other plans s.ends s.dials None None [] [] turns (λ other. omega arith) who c (Member at) actions s.chances.drawn s.chances.drawn r (text_dials who at secret running) (λ challenge was. was) old in
+    let one : (k c : ℕ) (r : Option Running) → TurnsIf (OfMember k) c None [] s.dials s.chances.drawn [] turns r →
+    TurnsIf (OfMember k) c None (given_by (Member at) actions ++ []) s.dials s.chances.drawn (given_by (Member at) actions) turns r =
+    λ k c r old.
+    one_other plans s.ends s.dials None None [] [] turns (λ other. omega arith) (OfMember k) c (Member at) actions s.chances.drawn s.chances.drawn r (text_dials (OfMember k) at secret running) (λ challenge was. was) old in
     record {
       before = holds.before;
       asks = asked_put
-          (λ (who : RequesterId) (c : ℕ) (r : Option Running). TurnsIf who c None (given_by (Member at) actions ++ []) s.dials s.chances.drawn (given_by (Member at) actions) turns r) plans at
-          (member_begun secret running) s.ends (λ who c. tt)
-          (one (OfMember at) (asked_in (OfMember at) plans s.ends) (member_begun secret running).running
-          (changed_turns (OfMember at) (asked_in (OfMember at) plans s.ends) None [] s.dials s.chances.drawn [] turns secret running
-          (subst (λ (found : Option MemberState). TurnsIf (OfMember at) (asked_in (OfMember at) plans s.ends) None [] s.dials s.chances.drawn [] turns (running_in found)) is (holds.asks (OfMember at)))))
-          (λ who differs. one who (asked_in who plans s.ends) (asker_in who s.ends) (holds.asks who));
+          (λ (k c : ℕ) (r : Option Running). TurnsIf (OfMember k) c None (given_by (Member at) actions ++ []) s.dials s.chances.drawn (given_by (Member at) actions) turns r) plans at
+          (member_begun secret running) s.ends (λ k c. tt)
+          (one at (asked_in at plans s.ends) (member_begun secret running).running
+          (changed_turns (OfMember at) (asked_in at plans s.ends) None [] s.dials s.chances.drawn [] turns secret running
+          (subst (λ (found : Option MemberState). TurnsIf (OfMember at) (asked_in at plans s.ends) None [] s.dials s.chances.drawn [] turns (running_in found)) is (holds.asks at))))
+          (λ k differs. one k (asked_in k plans s.ends) (asker_in k s.ends) (holds.asks k));
     }))

@@ -6,9 +6,9 @@ use Rattle.outside.specs.declared.event.Event.{Event}
 use Rattle.channel_events.specs.Marks.{Mark, Calling}
 use Rattle.member_server.specs.State.{State as MemberState}
 use Rattle.member_server.specs.declared.state.Running.{Running}
-use Rattle.step_notes.specs.Records.{Book, RequesterId, Sent}
+use Rattle.step_notes.specs.Records.{Book, OfMember, Sent}
 use Rattle.world_moves.specs.declared.links.EndId.{EndId}
-use Rattle.world_moves.specs.declared.links.EndId.TheVariants.{Controller, Client}
+use Rattle.world_moves.specs.declared.links.EndId.TheVariants.{Controller, Member, Client}
 use Rattle.world_moves.specs.declared.plan.Plan.{Plan}
 use Rattle.world_moves.specs.declared.state.State.{State}
 use Rattle.world_moves.specs.Acting.{Given, given_by, heard_by}
@@ -37,7 +37,7 @@ use Rattle.domain_world.proofs.Sequences.Own.OwnRunLaws.{hold_over, turns_at}
 use Rattle.domain_world.proofs.Sequences.Own.OwnStayLaws.{HearsIf, OwnFacts, all_stay, member_hears, OwnOf, own_on, on_any, NoNewCalls}
 use Rattle.domain_world.proofs.Sequences.Own.OwnTurnLaws.{TurnsIf}
 use Rattle.domain_world.proofs.Sequences.SeedTurnLaws.{drawn_still}
-use Rattle.domain_world.proofs.Moves.RequesterLaws.{asking_end, not_controller, not_client, asker_in}
+use Rattle.domain_world.proofs.Moves.RequesterLaws.{not_controller, not_client, asker_in}
 
 -- ---- the fact
 
@@ -63,12 +63,12 @@ HearsNoUnit end what s = IfMember (λ (at : ℕ). HearsIf (slice_get s.ends.memb
 
 module _ (plan : Plan) where
   -- an end that is no member
-  others_hear : (end : EndId) (step : EndStep) (s : State) (given : Given) (b : Book) → step.ends.members ≡ s.ends.members → ((who : RequesterId) → given_dials (asking_end who) (given_by end step.actions) ≡ 0) →
+  others_hear : (end : EndId) (step : EndStep) (s : State) (given : Given) (b : Book) → step.ends.members ≡ s.ends.members → ((k : ℕ) → given_dials (Member k) (given_by end step.actions) ≡ 0) →
       SameEnds s.ends step.ends → DrawsOn s.chances step.chances → (Differ s.chances.drawn → OwnFacts plan s given b) → Differ step.chances.drawn →
       OwnFacts plan (heard_by step s).state (given ++ given_by end step.actions) b
   others_hear end step s given b members none same draws known differ =
       all_stay plan s (heard_by step s).state b b refl (record { bag = kept_same s.bag; sent = λ k one there. there; ends = same }) given (given ++ given_by end step.actions)
-      (draws_still s.chances step.chances draws) refl members (λ who. omega (arith, given_append (asking_end who) given (given_by end step.actions), none who)) (λ n number timestamp e there. there)
+      (draws_still s.chances step.chances draws) refl members (λ k. omega (arith, given_append (Member k) given (given_by end step.actions), none k)) (λ n number timestamp e there. there)
       (known (draws_before s.chances step.chances draws differ))
 
   end_hears : (end : EndId) (what : Event) (s : State) (given : Given) (b : Book) → HearsNoUnit end what s → (Differ s.chances.drawn → OwnFacts plan s given b) →
@@ -76,13 +76,13 @@ module _ (plan : Plan) where
   end_hears end what s given b none known =
       step_by (λ (one : EndId) (step : EndStep).
       HearsNoUnit one what s → SameEnds s.ends step.ends → DrawsOn s.chances step.chances → Differ step.chances.drawn → OwnFacts plan (heard_by step s).state (given ++ given_by one step.actions) b)
-      what s.moment s.ends s.chances (λ one its same draws. others_hear one (no_step s.ends s.chances) s given b refl (λ who. refl) same draws known)
+      what s.moment s.ends s.chances (λ one its same draws. others_hear one (no_step s.ends s.chances) s given b refl (λ k. refl) same draws known)
       (λ at c is its same draws.
-      others_hear (Controller at) (controller_step (Some c) at what s.moment s.ends s.chances) s given b refl (λ who. given_other (asking_end who) (Controller at) _ (not_controller who at)) same draws known)
+      others_hear (Controller at) (controller_step (Some c) at what s.moment s.ends s.chances) s given b refl (λ k. given_other (Member k) (Controller at) _ (not_controller k at)) same draws known)
       (λ at m is its same draws.
       member_hears plan s given b m at what is (subst (λ (found : Option MemberState). HearsIf found what) is (its at refl))
       (record { bag = kept_same s.bag; sent = λ k one there. there; ends = same }) known)
-      (λ at c is its same draws. others_hear (Client at) (client_step (Some c) at what s.moment s.ends s.chances) s given b refl (λ who. given_other (asking_end who) (Client at) _ (not_client who at)) same draws known) end
+      (λ at c is its same draws. others_hear (Client at) (client_step (Some c) at what s.moment s.ends s.chances) s given b refl (λ k. given_other (Member k) (Client at) _ (not_client k at)) same draws known) end
       none (step_same end what s.moment s.ends s.chances) (end_draws end what s.moment s.ends s.chances)
 
   -- an end takes a step in which no whole unit comes on the link of a turn
@@ -106,18 +106,18 @@ module _ (plan : Plan) where
         calls_before (marks_in b.sent) (marks_in plain) (other_calls at b.forwards s (length b.sent)) n number timestamp e
         (subst (λ (all : List Mark). slice_get all n ≡ Some (Calling e number timestamp)) (marks_append b.sent plain) there)
 
-    one_over : (who : RequesterId) (r : Option Running) → asker_in who s.ends ≡ r → TurnsIf who (controller_asked who s) None [] s.dials s.chances.drawn given b.turns r →
-        OwnOf plan s given b who r → OwnOf plan s [] d who r
-    one_over who None runs turns old = (tt, tt)
-    one_over who (Some running) runs turns old =
-        own_on plan s s b d refl (over_grows at given s b) who s.chances.drawn s.chances.drawn (b.turns ++ turns_in given s) [] [] (Some running) refl (λ challenge drawn. drawn)
-        (on_any plan s s b d refl (over_grows at given s b) (controller_asked who s) (Some running) no_calls)
-        (old.0, own_over (IsTakenFor (past_at plan s b)) (marks_in b.sent) s given b.turns who running runs turns old.1)
+    one_over : (k : ℕ) (r : Option Running) → asker_in k s.ends ≡ r → TurnsIf (OfMember k) (controller_asked (OfMember k) s) None [] s.dials s.chances.drawn given b.turns r →
+        OwnOf plan s given b (OfMember k) r → OwnOf plan s [] d (OfMember k) r
+    one_over k None runs turns old = (tt, tt)
+    one_over k (Some running) runs turns old =
+        own_on plan s s b d refl (over_grows at given s b) k s.chances.drawn s.chances.drawn (b.turns ++ turns_in given s) [] [] (Some running) refl (λ challenge drawn. drawn)
+        (on_any plan s s b d refl (over_grows at given s b) (controller_asked (OfMember k) s) (Some running) no_calls)
+        (old.0, own_over (IsTakenFor (past_at plan s b)) (marks_in b.sent) s given b.turns k running runs turns old.1)
 
     pub facts_over : TurnsHold None [] s.member_plans s.ends s.dials s.chances.drawn given b.turns → OwnFacts plan s given b → OwnFacts plan s [] d
     facts_over turns old = record {
       before = (hold_over s given b.turns turns).before;
-      asks = λ who. one_over who (asker_in who s.ends) refl (turns_at s given b.turns turns who) (old.asks who);
+      asks = λ k. one_over k (asker_in k s.ends) refl (turns_at s given b.turns turns k) (old.asks k);
     }
 
   pub own_ends : (n at : ℕ) (s : State) (given : Given) (b : Book) → AtState TurnsKnown None [] s given b.turns → OwnHolds plan n s given b → OwnHolds plan n s [] (note_given at given s b)

@@ -1,11 +1,11 @@
--- At the end of a move, and after a run if each step keeps it, what is known of the calls of a requester's turns is
+-- At the end of a move, and after a run if each step keeps it, what is known of the calls of a member's turns is
 -- known with the turns of the move written down: it dialled once at most, and then its dial waits.
 -- It serves `Proved.sequences`.
-use Rattle.std.proofs.Common.{◌≡◌, ℕ, ◌≤◌, List, [], ◌++◌, inl, inr, Some, None, sym, ap, ◌∙◌, arith}
+use Rattle.std.proofs.Common.{◌≡◌, ℕ, ◌≤◌, List, [], ◌++◌, inl, inr, Some, None, sym, ◌∙◌, arith}
 use Rattle.channel_events.specs.Marks.{Mark}
 use Rattle.member_server.specs.declared.state.Running.{Running}
 use Rattle.step_notes.specs.MemberNotes.{turn_of}
-use Rattle.step_notes.specs.Records.{Book, ChannelTurn, blank, RequesterId}
+use Rattle.step_notes.specs.Records.{Book, ChannelTurn, OfMember, RequesterId, blank}
 use Rattle.world_moves.specs.declared.moves.Move.{Move}
 use Rattle.world_moves.specs.declared.plan.Plan.{Plan}
 use Rattle.world_moves.specs.declared.state.State.{State}
@@ -23,17 +23,18 @@ use Rattle.domain_world.proofs.Sequences.Own.OwnFrameLaws.{TurnsKnown}
 use Rattle.domain_world.proofs.Sequences.Own.OwnRunLaws.{first_known, turns_keep, all_turns}
 use Rattle.domain_world.proofs.Sequences.Own.OwnTurnLaws.{TurnsOf, mine, no_times, none_or_one, one_time, times}
 use Rattle.domain_world.proofs.Moves.PlacedLaws.{HasBytes}
-use Rattle.domain_world.proofs.Moves.RequesterLaws.{asking_end, asked_now, asker_in}
+use Rattle.domain_world.proofs.Moves.RequesterLaws.{asking_end, asker_in}
 
--- ---- of one requester
+-- ---- of one member
 
-pub own_over : (Done : ℕ → Type 0) (marks : List Mark) (s : State) (given : Given) (turns : List ChannelTurn) (who : RequesterId) (running : Running) → asker_in who s.ends ≡ Some running →
-    TurnsOf who (controller_asked who s) None [] s.dials s.chances.drawn given turns running → OwnCalls Done marks s.chances.drawn turns given (controller_asked who s) who running →
-    OwnCalls Done marks s.chances.drawn (turns ++ turns_in given s) [] (controller_asked who s) who running
-own_over Done marks s given turns who running runs dials old =
+pub own_over : (Done : ℕ → Type 0) (marks : List Mark) (s : State) (given : Given) (turns : List ChannelTurn) (k : ℕ) (running : Running) → asker_in k s.ends ≡ Some running →
+    TurnsOf (OfMember k) (controller_asked (OfMember k) s) None [] s.dials s.chances.drawn given turns running →
+    OwnCalls Done marks s.chances.drawn turns given (controller_asked (OfMember k) s) (OfMember k) running →
+    OwnCalls Done marks s.chances.drawn (turns ++ turns_in given s) [] (controller_asked (OfMember k) s) (OfMember k) running
+own_over Done marks s given turns k running runs dials old =
+    let who : RequesterId = OfMember k in
     let turn : List ChannelTurn = turn_of (controller_asked who s) who running.logons.channel in
-    let all : mine who (turns ++ turns_in given s) ≡ mine who turns ++ times (given_dials (asking_end who) given) turn =
-    all_turns s who running turns given runs ∙ ap (λ (c : ℕ). mine who turns ++ times (given_dials (asking_end who) given) (turn_of c who running.logons.channel)) (asked_now who s) in
+    let all : mine who (turns ++ turns_in given s) ≡ mine who turns ++ times (given_dials (asking_end who) given) turn = all_turns s k running turns given runs in
     let own : old.own ≡ mine who turns ++ times (given_dials (asking_end who) given) turn =
     elim (none_or_one (given_dials (asking_end who) given) dials.given_once) [
       | inl none ↦ old.none none ∙ sym (no_times (given_dials (asking_end who) given) turn (mine who turns) none)

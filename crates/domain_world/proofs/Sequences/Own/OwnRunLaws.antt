@@ -1,8 +1,9 @@
 -- After every run the seed of a requester's open channel is that of its turns on it.
 -- It serves `Proved.own`.
-use Rattle.std.proofs.Common.{◌≡◌, ℕ, zero, suc, ◌+◌, ◌≤◌, ◌&&◌, Bool, true, false, List, [], ◌∷◌, ◌++◌, drop, map, inl, inr, Option, Some, None, slice_get, slice_set, refl, sym, ap, subst, ◌∙◌, arith, if◌then◌else◌}
+use Rattle.std.proofs.Common.{◌≡◌, ℕ, zero, suc, ◌+◌, ◌≤◌, ◌&&◌, Bool, true, false, List, [], ◌∷◌, ◌++◌, drop, map, inl, inr, Option, Some, None, slice_get, slice_set, refl, sym, ap, subst, ◌∙◌, arith, ◌==◌, if◌then◌else◌}
 use Rattle.std.specs.List.{filter}
 use Rattle.std.proofs.lemmas.List.{append-nil, append_assoc, length-set}
+use Rattle.std.proofs.lemmas.Bool.Decides.{Decides-eqb}
 use Rattle.std.proofs.lemmas.List.Elements.{filter-append}
 use Rattle.outside.specs.declared.action.Action.{Action}
 use Rattle.outside.specs.declared.action.Action.TheVariants.{Keep, Send, Dial, Close, Told, Judged}
@@ -23,7 +24,7 @@ use Rattle.member_server.specs.Machine.{fresh_member}
 use Rattle.member_server.specs.declared.plan.MemberPlan.{MemberPlan}
 use Rattle.member_server.specs.declared.state.Running.{Running}
 use Rattle.member_server.proofs.AskedLaws.{asks_what_waits}
-use Rattle.step_notes.specs.MemberNotes.{stamped, turn_by, turn_in, turn_of}
+use Rattle.step_notes.specs.MemberNotes.{stamped, turn_by, turn_if, turn_in, turn_of}
 use Rattle.step_notes.specs.Records.{ChannelTurn, OfMember, same_requester, RequesterId}
 use Rattle.world_moves.specs.declared.links.EndId.{EndId}
 use Rattle.world_moves.specs.declared.links.EndId.TheVariants.{Controller, Member, Client, Station}
@@ -34,8 +35,10 @@ use Rattle.world_moves.specs.declared.state.WaitingDial.{WaitingDial}
 use Rattle.world_moves.specs.Acting.{Given, forget, is_of_other, perform_quietly, plans_after}
 use Rattle.world_moves.specs.Ends.{EndStates, with_client}
 use Rattle.world_moves.proofs.EndKindLaws.{IfMember}
-use Rattle.domain_world.specs.Claims.SharedSequences.{SequencesAreOwn, ChannelStands, timestamps_on}
-use Rattle.domain_world.specs.Past.{past, running_in, turns_by, turns_in, controller_asked}
+use Rattle.domain_world.specs.Claims.SharedSequences.{SequenceIsOwn, ChannelStands, timestamps_on}
+use Rattle.domain_world.specs.Past.{asker_of, controller_asked, past, requester_at, requester_in, running_in, turn_for_trust, turns_by, turns_in}
+use Rattle.domain_controller.specs.State.{State as ControllerState}
+use Rattle.member_server.specs.Dials.{dial_of}
 use Rattle.domain_world.proofs.Frames.ByKindLaws.{StepsByKind, every_kinds}
 use Rattle.domain_world.proofs.Frames.MoveKeepLaws.{How, every}
 use Rattle.domain_world.proofs.Moves.DrawnRunLaws.{draws_differ}
@@ -44,7 +47,7 @@ use Rattle.domain_world.proofs.Sequences.DialWalkLaws.{AtState, KeepsDials, dial
 use Rattle.domain_world.proofs.Sequences.Own.OwnFrameLaws.{change_holds, TurnsHold, TurnsKnown, begin_holds, hear_holds, same_turns}
 use Rattle.domain_world.proofs.Sequences.Own.OwnTurnLaws.{AreDrawn, TurnsIf, TurnsOf, both_drawn, mine, times, turn_drawn}
 use Rattle.domain_world.proofs.Sequences.SeedTurnLaws.{Turned, on_channel, stamps_on, turned_blank}
-use Rattle.domain_world.proofs.Moves.RequesterLaws.{asked_alike, asked_in, asked_now, asking_end, asks_at, not_controller, not_client, asker_in, RunsWith, asker_runs, stands_open, asker_first, asker_same, asked_put, same_is, same_asks, not_station}
+use Rattle.domain_world.proofs.Moves.RequesterLaws.{asked_alike, asked_in, asked_now, asking_end, asks_at, asker_in, RunsWith, asker_runs, stands_open, asker_first, asker_same, asked_put}
 use Rattle.domain_world.proofs.Calls.CallHoldsLaws.{SameNumbers}
 use Rattle.world_moves.proofs.KeptLaws.{plans_alike}
 use Rattle.world_moves.specs.Plain.{IsPlainPlan, plain_world, renew_plain_member as renew_member}
@@ -74,10 +77,10 @@ first_holds dial s turns is known differ =
     let holds = known differ in
     record {
       before = holds.before;
-      asks = λ who.
-          let count : waiting_dials (asking_end who) s.dials ≡ one_if (asks_at who dial.end) + waiting_dials (asking_end who) (drop 1 s.dials) =
-          ap (λ (l : List WaitingDial). waiting_dials (asking_end who) l) (first_of_dials s.dials dial is) in
-          fewer_out who (asked_in who s.member_plans s.ends) None (Some dial.end) s.dials (drop 1 s.dials) s.chances.drawn turns (asker_in who s.ends) (omega (arith, count)) (holds.asks who);
+      asks = λ k.
+          let count : waiting_dials (Member k) s.dials ≡ one_if (asks_at (OfMember k) dial.end) + waiting_dials (Member k) (drop 1 s.dials) =
+          ap (λ (l : List WaitingDial). waiting_dials (Member k) l) (first_of_dials s.dials dial is) in
+          fewer_out (OfMember k) (asked_in k s.member_plans s.ends) None (Some dial.end) s.dials (drop 1 s.dials) s.chances.drawn turns (asker_in k s.ends) (omega (arith, count)) (holds.asks k);
     }
 
 forgets_hold : (end : EndId) (s : State) (turns : List ChannelTurn) → TurnsKnown None [] s.member_plans s.ends s.dials s.chances [] turns →
@@ -86,9 +89,9 @@ forgets_hold end s turns known differ =
     let holds = known differ in
     record {
       before = holds.before;
-      asks = λ who.
-          fewer_out who (asked_in who s.member_plans s.ends) None None s.dials (filter (is_of_other end) s.dials) s.chances.drawn turns (asker_in who s.ends)
-          (omega (arith, forgotten_few (asking_end who) end s.dials)) (holds.asks who);
+      asks = λ k.
+          fewer_out (OfMember k) (asked_in k s.member_plans s.ends) None None s.dials (filter (is_of_other end) s.dials) s.chances.drawn turns (asker_in k s.ends)
+          (omega (arith, forgotten_few (Member k) end s.dials)) (holds.asks k);
     }
 
 -- ---- an end is made anew
@@ -111,15 +114,15 @@ module _ (plans : List MemberPlan) (ends : EndStates) (dials : List WaitingDial)
   other_renewed : (now : EndStates) → now.members ≡ ends.members → SameNumbers ends now → Now ends dials → Now now dials
   other_renewed now same numbers holds = record {
     before = holds.before;
-    asks = λ who. asker_same (λ (c : ℕ) (r : Option Running). TurnsIf who c None [] dials drawn [] turns r) who plans ends now same numbers (holds.asks who);
+    asks = λ k. asker_same (λ (c : ℕ) (r : Option Running). TurnsIf (OfMember k) c None [] dials drawn [] turns r) k plans ends now same numbers (holds.asks k);
   }
 
   -- none of its dials waits
   member_renewed : (plan : MemberPlan) (at : ℕ) → waiting_dials (Member at) dials ≡ 0 → Now ends dials → Now (renew_member (Some plan) at ends) dials
   member_renewed plan at none holds = record {
     before = holds.before;
-    asks = asked_put (λ (who : RequesterId) (c : ℕ) (r : Option Running). TurnsIf who c None [] dials drawn [] turns r) plans at (fresh_member plan) ends (λ who c. tt)
-        (anew (OfMember at) (asked_in (OfMember at) plans ends) plan dials none) (λ who differs. holds.asks who);
+    asks = asked_put (λ (k c : ℕ) (r : Option Running). TurnsIf (OfMember k) c None [] dials drawn [] turns r) plans at (fresh_member plan) ends (λ k c. tt)
+        (anew (OfMember at) (asked_in at plans ends) plan dials none) (λ k differs. holds.asks k);
   }
 
 renews_hold : (how : How) → StepsByKind how → (end : EndId) (s : State) (turns : List ChannelTurn) → AtState TurnsKnown None [] s [] turns →
@@ -139,13 +142,13 @@ renews_hold how kinds end s turns known =
 
 -- ---- the turns of a move are written down
 
-times_more : (a b : ℕ) (turns : List ChannelTurn) → times (a + b) turns ≡ times a turns ++ times b turns
+pub times_more : (a b : ℕ) (turns : List ChannelTurn) → times (a + b) turns ≡ times a turns ++ times b turns
 times_more zero b turns = let same : 0 + b ≡ b = omega arith in ap (λ (n : ℕ). times n turns) same
 times_more (suc a) b turns =
     let same : suc a + b ≡ suc (a + b) = omega arith in
     ap (λ (n : ℕ). times n turns) same ∙ ap (λ (all : List ChannelTurn). turns ++ all) (times_more a b turns) ∙ sym (append_assoc turns (times a turns) (times b turns))
 
-abbrev kept_if : Bool → List ChannelTurn → List ChannelTurn
+abbrev pub kept_if : Bool → List ChannelTurn → List ChannelTurn
 kept_if false turns = []
 kept_if true turns = turns
 
@@ -173,102 +176,112 @@ by_mine hit who other (Some (step.Reply q)) channel is = none_mine hit
 by_mine hit who other (Some (step.Set (set_step.Bind c))) channel is = stamped_mine hit who other channel (Some c.authenticator) is
 by_mine hit who other (Some (step.Set set_step.Reply)) channel is = none_mine hit
 
--- the turn whose bind waits, where its end runs
-abbrev turn_if : ℕ → RequesterId → Option Running → List ChannelTurn
-turn_if controller who None = []
-turn_if controller who (Some running) = turn_of controller who running.logons.channel
+pub if_mine : (hit : Bool) (who other : RequesterId) (controller : ℕ) (found : Option Requester) → same_requester other who ≡ hit →
+    mine who (turn_if controller other found) ≡ kept_if hit (turn_if controller other found)
+if_mine hit who other controller None is = none_mine hit
+if_mine hit who other controller (Some s) is = by_mine hit who other (step_in s.turn) (stands_in controller s.caller.computer s.standing) is
 
-of_member : (controller j : ℕ) (r : Option Running) → turn_if controller (OfMember j) r ≡ turn_in controller j r
+pub of_member : (controller j : ℕ) (r : Option Running) → turn_in controller j r ≡ turn_if controller (OfMember j) (requester_in r)
 of_member controller j None = refl
 of_member controller j (Some running) = refl
 
-if_mine : (hit : Bool) (who other : RequesterId) (controller : ℕ) (r : Option Running) → same_requester other who ≡ hit → mine who (turn_if controller other r) ≡ kept_if hit (turn_if controller other r)
-if_mine hit who other controller None is = none_mine hit
-if_mine hit who other controller (Some running) is =
-    by_mine hit who other (step_in running.logons.channel.turn) (stands_in controller running.logons.channel.caller.computer running.logons.channel.standing) is
+-- the turn for which a controller dials is no member's
+none_of_member : (k at : ℕ) (found : Option ControllerState) (s : State) → mine (OfMember k) (turn_for_trust at found s) ≡ []
+none_of_member k at None s = refl
+none_of_member k at (Some c) s =
+    if_mine false (OfMember k) (asker_of at c) (controller_asked (asker_of at c) s) (requester_at s (asker_of at c)) refl
+
+pub times_drawn : (drawn : List (List ℕ)) (n : ℕ) (turns : List ChannelTurn) → AreDrawn drawn turns → AreDrawn drawn (times n turns)
+times_drawn drawn zero turns all = tt
+times_drawn drawn (suc n) turns all = both_drawn drawn turns (times n turns) all (times_drawn drawn n turns all)
 
 module _ (s : State) where
-  -- the turn of a requester, as it is read after the move
-  abbrev turn_now : RequesterId → List ChannelTurn
-  turn_now who = turn_if (asked_in who s.member_plans s.ends) who (asker_in who s.ends)
+  -- the turn of a member, as it is read after the move
+  abbrev turn_now : ℕ → List ChannelTurn
+  turn_now k = turn_if (asked_in k s.member_plans s.ends) (OfMember k) (requester_in (asker_in k s.ends))
 
-  -- what is written down of an action: the turn that a requester dials for, or nothing
-  turn_cases : (P : EndId → Action → List ChannelTurn → Type 0) → ((end : EndId) (what : Action) → ((who : RequesterId) → counted (asks_at who end) what ≡ 0) → P end what []) →
-      ((who : RequesterId) (peer : List ℕ) → P (asking_end who) (Dial peer) (turn_now who)) → (end : EndId) (what : Action) → P end what (turns_by end what s)
-  turn_cases P none dials (Controller at) what = none (Controller at) what (λ who. ap (λ (hit : Bool). counted hit what) (not_controller who at))
-  turn_cases P none dials (Client at) what = none (Client at) what (λ who. ap (λ (hit : Bool). counted hit what) (not_client who at))
-  turn_cases P none dials (Station at) what = none (Station at) what (λ who. ap (λ (hit : Bool). counted hit what) (not_station who at))
-  turn_cases P none dials (Member j) (Dial peer) =
-      subst (P (Member j) (Dial peer)) (of_member (asked_in (OfMember j) s.member_plans s.ends) j (running_in (slice_get s.ends.members j))) (dials (OfMember j) peer)
-  turn_cases P none dials (Member j) (Keep bytes) = none (Member j) (Keep bytes) (λ who. none_counted (asks_at who (Member j)) (Keep bytes) refl)
-  turn_cases P none dials (Member j) (Send link bytes) = none (Member j) (Send link bytes) (λ who. none_counted (asks_at who (Member j)) (Send link bytes) refl)
-  turn_cases P none dials (Member j) (Close link cause) = none (Member j) (Close link cause) (λ who. none_counted (asks_at who (Member j)) (Close link cause) refl)
-  turn_cases P none dials (Member j) (Told link outcome) = none (Member j) (Told link outcome) (λ who. none_counted (asks_at who (Member j)) (Told link outcome) refl)
-  turn_cases P none dials (Member j) (Judged how) = none (Member j) (Judged how) (λ who. none_counted (asks_at who (Member j)) (Judged how) refl)
+  dial_mine : (hit : Bool) (k j : ℕ) (peer : List ℕ) → (j == k) ≡ hit → mine (OfMember k) (turn_now j) ≡ times (counted hit (Dial peer)) (turn_now k)
+  dial_mine false k j peer is = if_mine false (OfMember k) (OfMember j) (asked_in j s.member_plans s.ends) (requester_in (asker_in j s.ends)) is
+  dial_mine true k j peer is =
+      if_mine true (OfMember k) (OfMember j) (asked_in j s.member_plans s.ends) (requester_in (asker_in j s.ends)) is ∙ ap turn_now ((Decides-eqb j k).0 is)
+      ∙ sym (append-nil (turn_now k))
 
-  dial_mine : (hit : Bool) (who other : RequesterId) (peer : List ℕ) → same_requester other who ≡ hit → mine who (turn_now other) ≡ times (counted hit (Dial peer)) (turn_now who)
-  dial_mine false who other peer is = if_mine false who other (asked_in other s.member_plans s.ends) (asker_in other s.ends) is
-  dial_mine true who other peer is =
-      if_mine true who other (asked_in other s.member_plans s.ends) (asker_in other s.ends) is ∙ ap turn_now (same_is other who is) ∙ sym (append-nil (turn_now who))
+  no_dial : (k : ℕ) (hit : Bool) (what : Action) → (dial_of what ≡ 0) → [] ≡ times (counted hit what) (turn_now k)
+  no_dial k hit what none = ap (λ (n : ℕ). times n (turn_now k)) (sym (none_counted hit what none))
 
-  one_mine : (who : RequesterId) (end : EndId) (what : Action) → mine who (turns_by end what s) ≡ times (counted (asks_at who end) what) (turn_now who)
-  one_mine who =
-      turn_cases (λ (end : EndId) (what : Action) (turns : List ChannelTurn). mine who turns ≡ times (counted (asks_at who end) what) (turn_now who))
-      (λ end what none. ap (λ (n : ℕ). times n (turn_now who)) (sym (none who))) (λ other peer. dial_mine (asks_at who (asking_end other)) who other peer (same_asks other who))
+  -- what is written down of an action: the turn that a member dials for is its turn, and nothing else is a member's
+  one_mine : (k : ℕ) (end : EndId) (what : Action) → mine (OfMember k) (turns_by end what s) ≡ times (counted (asks_at (OfMember k) end) what) (turn_now k)
+  one_mine k (Controller at) (Dial peer) = none_of_member k at (slice_get s.ends.controllers at) s
+  one_mine k (Controller at) (Keep bytes) = refl
+  one_mine k (Controller at) (Send link bytes) = refl
+  one_mine k (Controller at) (Close link cause) = refl
+  one_mine k (Controller at) (Told link outcome) = refl
+  one_mine k (Controller at) (Judged how) = refl
+  one_mine k (Client at) what = refl
+  one_mine k (Station at) what = refl
+  one_mine k (Member j) (Dial peer) =
+      ap (mine (OfMember k)) (of_member (asked_in j s.member_plans s.ends) j (running_in (slice_get s.ends.members j))) ∙ dial_mine (j == k) k j peer refl
+  one_mine k (Member j) (Keep bytes) = no_dial k (j == k) (Keep bytes) refl
+  one_mine k (Member j) (Send link bytes) = no_dial k (j == k) (Send link bytes) refl
+  one_mine k (Member j) (Close link cause) = no_dial k (j == k) (Close link cause) refl
+  one_mine k (Member j) (Told link outcome) = no_dial k (j == k) (Told link outcome) refl
+  one_mine k (Member j) (Judged how) = no_dial k (j == k) (Judged how) refl
 
-  -- those of a requester are its turn, as often as it dialled
-  pub all_mine : (who : RequesterId) (given : Given) → mine who (turns_in given s) ≡ times (given_dials (asking_end who) given) (turn_now who)
-  all_mine who [] = refl
-  all_mine who (one ∷ given) =
-      filter-append (λ (turn : ChannelTurn). same_requester turn.requester who) (turns_by one.0 one.1 s) (turns_in given s)
-      ∙ ap (λ (l : List ChannelTurn). l ++ mine who (turns_in given s)) (one_mine who one.0 one.1)
-      ∙ ap (λ (l : List ChannelTurn). times (counted (asks_at who one.0) one.1) (turn_now who) ++ l) (all_mine who given)
-      ∙ sym (times_more (counted (asks_at who one.0) one.1) (given_dials (asking_end who) given) (turn_now who))
+  -- those of a member are its turn, as often as it dialled
+  pub all_mine : (k : ℕ) (given : Given) → mine (OfMember k) (turns_in given s) ≡ times (given_dials (Member k) given) (turn_now k)
+  all_mine k [] = refl
+  all_mine k (one ∷ given) =
+      filter-append (λ (turn : ChannelTurn). same_requester turn.requester (OfMember k)) (turns_by one.0 one.1 s) (turns_in given s)
+      ∙ ap (λ (l : List ChannelTurn). l ++ mine (OfMember k) (turns_in given s)) (one_mine k one.0 one.1)
+      ∙ ap (λ (l : List ChannelTurn). times (counted (asks_at (OfMember k) one.0) one.1) (turn_now k) ++ l) (all_mine k given)
+      ∙ sym (times_more (counted (asks_at (OfMember k) one.0) one.1) (given_dials (Member k) given) (turn_now k))
 
-  -- where its end runs, with those before
-  pub all_turns : (who : RequesterId) (running : Running) (turns : List ChannelTurn) (given : Given) → asker_in who s.ends ≡ Some running →
-      mine who (turns ++ turns_in given s) ≡ mine who turns ++ times (given_dials (asking_end who) given) (turn_of (asked_in who s.member_plans s.ends) who running.logons.channel)
-  all_turns who running turns given runs =
-      filter-append (λ (one : ChannelTurn). same_requester one.requester who) turns (turns_in given s)
-      ∙ ap (λ (l : List ChannelTurn). mine who turns ++ l) (all_mine who given)
-      ∙ ap (λ (r : Option Running). mine who turns ++ times (given_dials (asking_end who) given) (turn_if (asked_in who s.member_plans s.ends) who r)) runs
+  -- with those before
+  more_turns : (k : ℕ) (turns : List ChannelTurn) (given : Given) →
+      mine (OfMember k) (turns ++ turns_in given s) ≡ mine (OfMember k) turns ++ times (given_dials (Member k) given) (turn_now k)
+  more_turns k turns given =
+      filter-append (λ (one : ChannelTurn). same_requester one.requester (OfMember k)) turns (turns_in given s)
+      ∙ ap (λ (l : List ChannelTurn). mine (OfMember k) turns ++ l) (all_mine k given)
+
+  -- where it runs
+  pub all_turns : (k : ℕ) (running : Running) (turns : List ChannelTurn) (given : Given) → asker_in k s.ends ≡ Some running →
+      mine (OfMember k) (turns ++ turns_in given s)
+      ≡ mine (OfMember k) turns ++ times (given_dials (Member k) given) (turn_of (asked_in k s.member_plans s.ends) (OfMember k) running.logons.channel)
+  all_turns k running turns given runs =
+      more_turns k turns given
+      ∙ ap (λ (r : Option Running). mine (OfMember k) turns ++ times (given_dials (Member k) given) (turn_if (asked_in k s.member_plans s.ends) (OfMember k) (requester_in r))) runs
 
   -- ---- the turns that are written down were on channels whose client's challenge was drawn
 
   module _ (given : Given) (turns : List ChannelTurn) (holds : TurnsHold None [] s.member_plans s.ends s.dials s.chances.drawn given turns) where
-    if_drawn : (who : RequesterId) (controller : ℕ) (r : Option Running) → TurnsIf who controller None [] s.dials s.chances.drawn given turns r → AreDrawn s.chances.drawn (turn_if controller who r)
+    if_drawn : (who : RequesterId) (controller : ℕ) (r : Option Running) → TurnsIf who controller None [] s.dials s.chances.drawn given turns r →
+        AreDrawn s.chances.drawn (turn_if controller who (requester_in r))
     if_drawn who controller None known = tt
     if_drawn who controller (Some running) known = turn_drawn controller who running.logons.channel _ s.chances.drawn known.turned
 
-    one_drawn : (end : EndId) (what : Action) → AreDrawn s.chances.drawn (turns_by end what s)
-    one_drawn =
-        turn_cases (λ (end : EndId) (what : Action) (turns : List ChannelTurn). AreDrawn s.chances.drawn turns) (λ end what none. tt)
-        (λ who peer. if_drawn who (asked_in who s.member_plans s.ends) (asker_in who s.ends) (holds.asks who))
-
-    all_drawn : (some : Given) → AreDrawn s.chances.drawn (turns_in some s)
-    all_drawn [] = tt
-    all_drawn (one ∷ some) = both_drawn s.chances.drawn (turns_by one.0 one.1 s) (turns_in some s) (one_drawn one.0 one.1) (all_drawn some)
+    all_drawn : (k : ℕ) → AreDrawn s.chances.drawn (mine (OfMember k) (turns ++ turns_in given s))
+    all_drawn k =
+        subst (AreDrawn s.chances.drawn) (sym (more_turns k turns given))
+        (both_drawn s.chances.drawn (mine (OfMember k) turns) (times (given_dials (Member k) given) (turn_now k)) (holds.before k)
+        (times_drawn s.chances.drawn (given_dials (Member k) given) (turn_now k) (if_drawn (OfMember k) (asked_in k s.member_plans s.ends) (asker_in k s.ends) (holds.asks k))))
 
     -- ---- what is known of turns stays known at the end of a move
 
-    one_over : (who : RequesterId) (r : Option Running) → asker_in who s.ends ≡ r → TurnsIf who (asked_in who s.member_plans s.ends) None [] s.dials s.chances.drawn given turns r →
-        TurnsIf who (asked_in who s.member_plans s.ends) None [] s.dials s.chances.drawn [] (turns ++ turns_in given s) r
-    one_over who None runs old = tt
-    one_over who (Some running) runs old = record {
+    one_over : (k : ℕ) (r : Option Running) → asker_in k s.ends ≡ r → TurnsIf (OfMember k) (asked_in k s.member_plans s.ends) None [] s.dials s.chances.drawn given turns r →
+        TurnsIf (OfMember k) (asked_in k s.member_plans s.ends) None [] s.dials s.chances.drawn [] (turns ++ turns_in given s) r
+    one_over k None runs old = tt
+    one_over k (Some running) runs old = record {
       order = old.order;
       out_once = old.out_once;
       out_waits = old.out_waits;
       given_once = omega arith;
       given_waits = λ some. absurd (omega (arith, some));
-      turned = subst (λ (l : List ChannelTurn). Turned (view_of (asked_in who s.member_plans s.ends) running.logons.channel) l s.chances.drawn)
-          (sym (append-nil (mine who (turns ++ turns_in given s)) ∙ all_turns who running turns given runs)) old.turned;
+      turned = subst (λ (l : List ChannelTurn). Turned (view_of (asked_in k s.member_plans s.ends) running.logons.channel) l s.chances.drawn)
+          (sym (append-nil (mine (OfMember k) (turns ++ turns_in given s)) ∙ all_turns k running turns given runs)) old.turned;
     }
 
     pub hold_over : TurnsHold None [] s.member_plans s.ends s.dials s.chances.drawn [] (turns ++ turns_in given s)
-    hold_over = record {
-      before = both_drawn s.chances.drawn turns (turns_in given s) holds.before (all_drawn given);
-      asks = λ who. one_over who (asker_in who s.ends) refl (holds.asks who);
-    }
+    hold_over = record { before = all_drawn; asks = λ k. one_over k (asker_in k s.ends) refl (holds.asks k) }
 
 -- ---- an action is done
 
@@ -278,11 +291,11 @@ acts_hold d rest end what s given turns known differ =
     let holds = known differ in
     record {
       before = holds.before;
-      asks = λ who.
-          subst (λ (c : ℕ). TurnsIf who c d rest (perform_quietly end what s).dials s.chances.drawn given turns (asker_in who s.ends))
-          (sym (asked_alike who s.member_plans (plans_after end what s.member_plans) s.ends (plans_alike end what s.member_plans)))
-          (same_turns who (asked_in who s.member_plans s.ends) d d ((end, what) ∷ rest) rest s.dials (perform_quietly end what s).dials s.chances.drawn s.chances.drawn given given
-          turns (asker_in who s.ends) (omega (arith, done_same (asking_end who) d rest end what s)) (omega arith) refl (λ challenge is. is) (holds.asks who));
+      asks = λ k.
+          subst (λ (c : ℕ). TurnsIf (OfMember k) c d rest (perform_quietly end what s).dials s.chances.drawn given turns (asker_in k s.ends))
+          (sym (asked_alike k s.member_plans (plans_after end what s.member_plans) s.ends (plans_alike end what s.member_plans)))
+          (same_turns (OfMember k) (asked_in k s.member_plans s.ends) d d ((end, what) ∷ rest) rest s.dials (perform_quietly end what s).dials s.chances.drawn s.chances.drawn given given
+          turns (asker_in k s.ends) (omega (arith, done_same (Member k) d rest end what s)) (omega arith) refl (λ challenge is. is) (holds.asks k));
     }
 
 -- ---- through a run
@@ -309,9 +322,9 @@ pub first_known : (plan : Plan) → AtState TurnsKnown None [] (plain_world plan
 first_known plan differ =
     let s : State = (plain_world plan).state in
     record {
-      before = tt;
-      asks = asker_first (λ (who : RequesterId) (r : Option Running). TurnsIf who (asked_in who s.member_plans s.ends) None [] [] s.chances.drawn [] [] r) plan (λ who. tt)
-          (λ who own. anew s.member_plans s.ends [] s.chances.drawn [] who (asked_in who s.member_plans s.ends) own [] refl);
+      before = λ k. tt;
+      asks = asker_first (λ (k : ℕ) (r : Option Running). TurnsIf (OfMember k) (asked_in k s.member_plans s.ends) None [] [] s.chances.drawn [] [] r) plan (λ k. tt)
+          (λ k own. anew s.member_plans s.ends [] s.chances.drawn [] (OfMember k) (asked_in k s.member_plans s.ends) own [] refl);
     }
 
 -- ---- the claim
@@ -329,29 +342,35 @@ and_filter one other (turn ∷ turns) = and_one (one turn) turn (filter one turn
 pub own_stamps : (who : RequesterId) (channel : ChannelIdentity) (turns : List ChannelTurn) → stamps_on channel (mine who turns) ≡ timestamps_on who channel turns
 own_stamps who channel turns = ap (λ (l : List ChannelTurn). map (λ (turn : ChannelTurn). turn.timestamp) l) (sym (and_filter (λ (turn : ChannelTurn). same_requester turn.requester who) (on_channel channel) turns))
 
--- of each requester, with the controller that it asks
-pub turns_at : (s : State) (given : Given) (turns : List ChannelTurn) → TurnsHold None [] s.member_plans s.ends s.dials s.chances.drawn given turns → (who : RequesterId) →
-    TurnsIf who (controller_asked who s) None [] s.dials s.chances.drawn given turns (asker_in who s.ends)
-turns_at s given turns holds who = subst (λ (c : ℕ). TurnsIf who c None [] s.dials s.chances.drawn given turns (asker_in who s.ends)) (asked_now who s) (holds.asks who)
+-- of each member, with the controller that it asks
+pub turns_at : (s : State) (given : Given) (turns : List ChannelTurn) → TurnsHold None [] s.member_plans s.ends s.dials s.chances.drawn given turns → (k : ℕ) →
+    TurnsIf (OfMember k) (controller_asked (OfMember k) s) None [] s.dials s.chances.drawn given turns (asker_in k s.ends)
+turns_at s given turns holds k = subst (λ (c : ℕ). TurnsIf (OfMember k) c None [] s.dials s.chances.drawn given turns (asker_in k s.ends)) (asked_now k s) (holds.asks k)
 
-own_seed : (s : State) (who : RequesterId) (channel : ChannelIdentity) (o : SecureChannelState) (turns : List ChannelTurn) → TurnsHold None [] s.member_plans s.ends s.dials s.chances.drawn [] turns →
-    ChannelStands s who channel o → o.seed ≡ channel_seed channel (timestamps_on who channel turns)
-own_seed s who channel o turns holds stands =
+-- whoever asks, by what is known of it and of its turns
+pub seed_turned : (s : State) (who : RequesterId) (channel : ChannelIdentity) (o : SecureChannelState) (turns : List ChannelTurn) (stands : ChannelStands s who channel o) →
+    Turned (view_of (controller_asked who s) stands.requester) (mine who turns) s.chances.drawn → o.seed ≡ channel_seed channel (timestamps_on who channel turns)
+seed_turned s who channel o turns stands turned =
+    some_is o.seed (channel_seed channel (stamps_on channel (mine who turns))) (sym (ap seed_in stands.open_so) ∙ turned.seed channel (stands_open s who channel o stands))
+    ∙ ap (channel_seed channel) (own_stamps who channel turns)
+
+own_seed : (s : State) (k : ℕ) (channel : ChannelIdentity) (o : SecureChannelState) (turns : List ChannelTurn) → TurnsHold None [] s.member_plans s.ends s.dials s.chances.drawn [] turns →
+    ChannelStands s (OfMember k) channel o → o.seed ≡ channel_seed channel (timestamps_on (OfMember k) channel turns)
+own_seed s k channel o turns holds stands =
+    let who : RequesterId = OfMember k in
     let c : ℕ = controller_asked who s in
-    let with : RunsWith (asker_in who s.ends) stands.requester = asker_runs who s stands.requester stands.at in
+    let with : RunsWith (asker_in k s.ends) stands.requester = asker_runs k s stands.requester stands.at in
     let known : TurnsOf who c None [] s.dials s.chances.drawn [] turns with.running =
-    subst (TurnsIf who c None [] s.dials s.chances.drawn [] turns) with.runs (turns_at s [] turns holds who) in
+    subst (TurnsIf who c None [] s.dials s.chances.drawn [] turns) with.runs (turns_at s [] turns holds k) in
     let turned : Turned (view_of c stands.requester) (mine who turns ++ []) s.chances.drawn =
     subst (λ (x : Requester). Turned (view_of c x) (mine who turns ++ []) s.chances.drawn) with.is known.turned in
-    let seed : Some o.seed ≡ Some (channel_seed channel (stamps_on channel (mine who turns ++ []))) = sym (ap seed_in stands.open_so) ∙ turned.seed channel (stands_open s who channel o stands) in
-    some_is o.seed (channel_seed channel (stamps_on channel (mine who turns ++ []))) seed
-    ∙ ap (λ (l : List ChannelTurn). channel_seed channel (stamps_on channel l)) (append-nil (mine who turns))
-    ∙ ap (channel_seed channel) (own_stamps who channel turns)
+    seed_turned s who channel o turns stands (subst (λ (l : List ChannelTurn). Turned (view_of c stands.requester) l s.chances.drawn) (append-nil (mine who turns)) turned)
 
 -- what is known of turns holds after every run of a plain plan
 pub turns_after : (plan : Plan) (moves : List Move) → IsPlainPlan plan → AtState TurnsKnown None [] (past plan moves).world.state [] (past plan moves).book.turns
 turns_after plan moves nothing = dials_after TurnsKnown (turns_keep every every_kinds) plan moves nothing (first_known plan)
 
-pub sequences_own : (plan : Plan) (moves : List Move) → IsPlainPlan plan → SequencesAreOwn (past plan moves)
-sequences_own plan moves nothing who channel o stands =
-    own_seed (past plan moves).world.state who channel o (past plan moves).book.turns (turns_after plan moves nothing (draws_differ plan moves)) stands
+-- the sequence of each member is its own
+pub members_own : (plan : Plan) (moves : List Move) → IsPlainPlan plan → (k : ℕ) → SequenceIsOwn (past plan moves) (OfMember k)
+members_own plan moves nothing k channel o stands =
+    own_seed (past plan moves).world.state k channel o (past plan moves).book.turns (turns_after plan moves nothing (draws_differ plan moves)) stands

@@ -29,7 +29,7 @@ use Rattle.domain_world.proofs.Sequences.CalledStepLaws.{OwnCalls, own_grows}
 use Rattle.domain_world.proofs.Sequences.DialCountLaws.{given_append, given_dials, given_other}
 use Rattle.domain_world.proofs.Sequences.Own.OwnFrameLaws.{StillDrawn, still_drawn}
 use Rattle.domain_world.proofs.Sequences.Own.OwnStepLaws.{OwnIf, own_quiet}
-use Rattle.domain_world.proofs.Sequences.Own.OwnTurnLaws.{AreDrawn}
+use Rattle.domain_world.proofs.Sequences.Own.OwnTurnLaws.{AreDrawn, mine}
 use Rattle.domain_world.proofs.Sequences.SeedTurnLaws.{drawn_still}
 use Rattle.domain_world.proofs.Moves.RequesterLaws.{asked_stays, asking_end, not_that, asker_in, asker_kept, asker_put}
 
@@ -42,11 +42,11 @@ OwnBy Done marks drawn turns given controller who r = InOrderUnlessStopped r × 
 abbrev pub OwnOf : Plan → State → Given → Book → RequesterId → Option Running → Type 0
 OwnOf plan s given b who r = OwnBy (IsTakenFor (past_at plan s b)) (marks_in b.sent) s.chances.drawn b.turns given (controller_asked who s) who r
 
--- The turns that are written down were on channels whose client's challenge was drawn, and `OwnOf` is known of each
--- requester.
+-- The turns of members that are written down were on channels whose client's challenge was drawn, and `OwnOf` is known
+-- of each member.
 pub record OwnFacts (plan : Plan) (s : State) (given : Given) (b : Book) : Type 0 where
-  pub before : AreDrawn s.chances.drawn b.turns
-  pub asks : (who : RequesterId) → OwnOf plan s given b who (asker_in who s.ends)
+  pub before : (k : ℕ) → AreDrawn s.chances.drawn (mine (OfMember k) b.turns)
+  pub asks : (k : ℕ) → OwnOf plan s given b (OfMember k) (asker_in k s.ends)
 
 -- ---- what is written down grows
 
@@ -76,16 +76,16 @@ OnStanding P controller (Some running) = (c : ChannelIdentity) → stands_in con
 
 module _ (plan : Plan) (s t : State) (b d : Book) (plans : AreAlikeButSecrets s.member_plans t.member_plans) (grows : GrowsTo s t b d) where
   -- of one that takes no step, by what is drawn, written down and given
-  pub own_on : (who : RequesterId) (drawn later : List (List ℕ)) (turns : List ChannelTurn) (given more : Given) (r : Option Running) → given_dials (asking_end who) more ≡ given_dials (asking_end who) given →
-      StillDrawn drawn later → OnStanding (NoNewOn (marks_in b.sent) (marks_in d.sent)) (controller_asked who s) r →
-      OwnBy (IsTakenFor (past_at plan s b)) (marks_in b.sent) drawn turns given (controller_asked who s) who r →
-      OwnBy (IsTakenFor (past_at plan t d)) (marks_in d.sent) later turns more (controller_asked who t) who r
-  own_on who drawn later turns given more None count still new old = (tt, tt)
-  own_on who drawn later turns given more (Some running) count still new old = (
+  pub own_on : (k : ℕ) (drawn later : List (List ℕ)) (turns : List ChannelTurn) (given more : Given) (r : Option Running) → given_dials (Member k) more ≡ given_dials (Member k) given →
+      StillDrawn drawn later → OnStanding (NoNewOn (marks_in b.sent) (marks_in d.sent)) (controller_asked (OfMember k) s) r →
+      OwnBy (IsTakenFor (past_at plan s b)) (marks_in b.sent) drawn turns given (controller_asked (OfMember k) s) (OfMember k) r →
+      OwnBy (IsTakenFor (past_at plan t d)) (marks_in d.sent) later turns more (controller_asked (OfMember k) t) (OfMember k) r
+  own_on k drawn later turns given more None count still new old = (tt, tt)
+  own_on k drawn later turns given more (Some running) count still new old = (
     old.0,
-    subst (λ (c : ℕ). OwnCalls (IsTakenFor (past_at plan t d)) (marks_in d.sent) later turns more c who running) (sym (asked_stays who s t plans grows.ends))
+    subst (λ (c : ℕ). OwnCalls (IsTakenFor (past_at plan t d)) (marks_in d.sent) later turns more c (OfMember k) running) (sym (asked_stays k s t plans grows.ends))
         (own_grows (IsTakenFor (past_at plan s b)) (IsTakenFor (past_at plan t d)) (taken_for_stays plan s t b d grows) (marks_in b.sent) (marks_in d.sent) drawn later turns given more
-        (controller_asked who s) who running (marks_still b.sent d.sent grows.sent) new count still old.1),
+        (controller_asked (OfMember k) s) (OfMember k) running (marks_still b.sent d.sent grows.sent) new count still old.1),
   )
 
   pub on_any : (controller : ℕ) (r : Option Running) → NoNewCalls (marks_in b.sent) (marks_in d.sent) → OnStanding (NoNewOn (marks_in b.sent) (marks_in d.sent)) controller r
@@ -93,32 +93,34 @@ module _ (plan : Plan) (s t : State) (b d : Book) (plans : AreAlikeButSecrets s.
   on_any controller (Some running) none = λ c stands n number timestamp e there client. none n number timestamp e there
 
   module _ (given more : Given) (drawn : StillDrawn s.chances.drawn t.chances.drawn) (turns : d.turns ≡ b.turns) where
-    pub one_stays : (who : RequesterId) (r : Option Running) → given_dials (asking_end who) more ≡ given_dials (asking_end who) given → OnStanding (NoNewOn (marks_in b.sent) (marks_in d.sent)) (controller_asked who s) r →
-        OwnOf plan s given b who r → OwnOf plan t more d who r
-    one_stays who r count new old =
-        subst (λ (all : List ChannelTurn). OwnBy (IsTakenFor (past_at plan t d)) (marks_in d.sent) t.chances.drawn all more (controller_asked who t) who r) (sym turns)
-        (own_on who s.chances.drawn t.chances.drawn b.turns given more r count drawn new old)
+    pub one_stays : (k : ℕ) (r : Option Running) → given_dials (Member k) more ≡ given_dials (Member k) given →
+        OnStanding (NoNewOn (marks_in b.sent) (marks_in d.sent)) (controller_asked (OfMember k) s) r → OwnOf plan s given b (OfMember k) r → OwnOf plan t more d (OfMember k) r
+    one_stays k r count new old =
+        subst (λ (all : List ChannelTurn). OwnBy (IsTakenFor (past_at plan t d)) (marks_in d.sent) t.chances.drawn all more (controller_asked (OfMember k) t) (OfMember k) r) (sym turns)
+        (own_on k s.chances.drawn t.chances.drawn b.turns given more r count drawn new old)
 
-    pub before_stays : AreDrawn s.chances.drawn b.turns → AreDrawn t.chances.drawn d.turns
-    before_stays all = subst (λ (ts : List ChannelTurn). AreDrawn t.chances.drawn ts) (sym turns) (still_drawn s.chances.drawn t.chances.drawn b.turns drawn all)
+    pub before_stays : ((k : ℕ) → AreDrawn s.chances.drawn (mine (OfMember k) b.turns)) → (k : ℕ) → AreDrawn t.chances.drawn (mine (OfMember k) d.turns)
+    before_stays all k =
+        subst (λ (ts : List ChannelTurn). AreDrawn t.chances.drawn (mine (OfMember k) ts)) (sym turns)
+        (still_drawn s.chances.drawn t.chances.drawn (mine (OfMember k) b.turns) drawn (all k))
 
     -- no member takes a step, and no call goes out
-    pub all_stay : t.ends.members ≡ s.ends.members → ((who : RequesterId) → given_dials (asking_end who) more ≡ given_dials (asking_end who) given) → NoNewCalls (marks_in b.sent) (marks_in d.sent) → OwnFacts plan s given b →
+    pub all_stay : t.ends.members ≡ s.ends.members → ((k : ℕ) → given_dials (Member k) more ≡ given_dials (Member k) given) → NoNewCalls (marks_in b.sent) (marks_in d.sent) → OwnFacts plan s given b →
         OwnFacts plan t more d
     all_stay members count none old = record {
       before = before_stays old.before;
-      asks = λ who.
-          subst (OwnOf plan t more d who) (sym (asker_kept who s.ends t.ends members))
-          (one_stays who (asker_in who s.ends) (count who) (on_any (controller_asked who s) (asker_in who s.ends) none) (old.asks who));
+      asks = λ k.
+          subst (OwnOf plan t more d (OfMember k)) (sym (asker_kept k s.ends t.ends members))
+          (one_stays k (asker_in k s.ends) (count k) (on_any (controller_asked (OfMember k) s) (asker_in k s.ends) none) (old.asks k));
     }
 
     -- a member takes a step, and the others stay
-    pub own_put : (at : ℕ) (new : MemberState) → OwnOf plan t more d (OfMember at) new.running → ((who : RequesterId) → who ≢ OfMember at → given_dials (asking_end who) more ≡ given_dials (asking_end who) given) →
-        ((who : RequesterId) → who ≢ OfMember at → OnStanding (NoNewOn (marks_in b.sent) (marks_in d.sent)) (controller_asked who s) (asker_in who s.ends)) → OwnFacts plan s given b →
-        (who : RequesterId) → OwnOf plan t more d who (asker_in who (with_member at new s.ends))
+    pub own_put : (at : ℕ) (new : MemberState) → OwnOf plan t more d (OfMember at) new.running → ((k : ℕ) → k ≢ at → given_dials (Member k) more ≡ given_dials (Member k) given) →
+        ((k : ℕ) → k ≢ at → OnStanding (NoNewOn (marks_in b.sent) (marks_in d.sent)) (controller_asked (OfMember k) s) (asker_in k s.ends)) → OwnFacts plan s given b →
+        (k : ℕ) → OwnOf plan t more d (OfMember k) (asker_in k (with_member at new s.ends))
     own_put at new own count none old =
-        asker_put (OwnOf plan t more d) at new s.ends (λ who. (tt, tt)) own
-        (λ who differs. one_stays who (asker_in who s.ends) (count who differs) (none who differs) (old.asks who))
+        asker_put (λ (k : ℕ). OwnOf plan t more d (OfMember k)) at new s.ends (λ k. (tt, tt)) own
+        (λ k differs. one_stays k (asker_in k s.ends) (count k differs) (none k differs) (old.asks k))
 
 -- ---- a member takes a step
 
@@ -156,13 +158,13 @@ module _ (plan : Plan) (s : State) (given : Given) (b : Book) where
       let still : StillDrawn s.chances.drawn t.chances.drawn = λ challenge was. drawn_still challenge s.chances.drawn step.drawn was in
       let old : OwnFacts plan s given b = known (differ_front s.chances.drawn step.drawn differ) in
       let its : ℕ = controller_asked (OfMember at) s in
-      let was : OwnOf plan s given b (OfMember at) m.running = subst (λ (found : Option MemberState). OwnOf plan s given b (OfMember at) (running_in found)) is (old.asks (OfMember at)) in
+      let was : OwnOf plan s given b (OfMember at) m.running = subst (λ (found : Option MemberState). OwnOf plan s given b (OfMember at) (running_in found)) is (old.asks at) in
       let own : OwnOf plan t more b (OfMember at) step.state.running =
-      own_on plan s t b b refl grows (OfMember at) t.chances.drawn t.chances.drawn b.turns more more step.state.running refl (λ challenge drawn. drawn)
+      own_on plan s t b b refl grows at t.chances.drawn t.chances.drawn b.turns more more step.state.running refl (λ challenge drawn. drawn)
       (on_any plan s t b b refl grows its step.state.running (λ n number timestamp e there. there)) (quiet_own (OfMember at) its m.running what none was differ) in
       record {
         before = before_stays plan s t b b refl grows given more still refl old.before;
         asks = own_put plan s t b b refl grows given more still refl at step.state own
-            (λ who differs. omega (arith, given_append (asking_end who) given (given_by (Member at) actions), given_other (asking_end who) (Member at) actions (not_that who at differs)))
-            (λ who differs. on_any plan s t b b refl grows (controller_asked who s) (asker_in who s.ends) (λ n number timestamp e there. there)) old;
+            (λ k differs. omega (arith, given_append (Member k) given (given_by (Member at) actions), given_other (Member k) (Member at) actions (not_that k at differs)))
+            (λ k differs. on_any plan s t b b refl grows (controller_asked (OfMember k) s) (asker_in k s.ends) (λ n number timestamp e there. there)) old;
       }

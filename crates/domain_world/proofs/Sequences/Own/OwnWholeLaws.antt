@@ -10,7 +10,6 @@ use Rattle.channel_client.specs.Effects.{stands_in, view_of}
 use Rattle.channel_client.specs.Machine.{take_of}
 use Rattle.channel_client.specs.State.{Requester}
 use Rattle.channel_events.specs.Marks.{Mark, Calling}
-use Rattle.channel_events.specs.Requests.{Requests}
 use Rattle.member_server.specs.Machine.{actions_in, event_part, halted_state, state_in, step_of}
 use Rattle.member_server.specs.State.{State as MemberState}
 use Rattle.member_server.specs.Turns.{DialWork}
@@ -21,7 +20,7 @@ use Rattle.member_server.proofs.AskedLaws.{asks_what_waits}
 use Rattle.rpc_units.specs.declared.unit.Unit.{Unit as RpcUnit}
 use Rattle.end_links.specs.Links.{LinkState}
 use Rattle.step_notes.specs.MemberNotes.{TurnNote, taking_note}
-use Rattle.step_notes.specs.Records.{Book, ChannelTurn, Sent, unit_in, OfMember, RequesterId}
+use Rattle.step_notes.specs.Records.{Book, ChannelTurn, Sent, unit_in, OfMember}
 use Rattle.world_moves.specs.declared.links.EndId.TheVariants.{Member}
 use Rattle.world_moves.specs.declared.plan.Plan.{Plan}
 use Rattle.world_moves.specs.declared.state.State.{State}
@@ -34,7 +33,6 @@ use Rattle.domain_world.specs.Accepting.SeenSteps.{Differ, IsPlaced, NoRequests,
 use Rattle.domain_world.specs.Accepting.Carried.{IsTakenInTurn}
 use Rattle.domain_world.specs.Accepting.Sequences.{IsTakenFor}
 use Rattle.domain_world.specs.Past.{Delivery, note_member, sent_at, controller_asked, running_in}
-use Rattle.domain_world.specs.Accepting.Runs.{view_with}
 use Rattle.domain_world.proofs.Frames.AloneStepLaws.{act_alone as hear_and_act}
 use Rattle.domain_world.proofs.Acceptance.CarriedLaws.{one_whole}
 use Rattle.domain_world.proofs.Acceptance.LetInStepLaws.{IsDialledBy}
@@ -47,7 +45,7 @@ use Rattle.domain_world.proofs.Moves.ComingLaws.{CameFrom, CameInUnit, IsPieceOf
 use Rattle.domain_world.proofs.Moves.OpenMadeLaws.{IsAtSide}
 use Rattle.domain_world.proofs.Calls.CallComesLaws.{IsWhole, marks, request_placed, served, turn, units_whole}
 use Rattle.domain_world.proofs.Calls.CallFrameLaws.{TurnOn, turn_case}
-use Rattle.domain_world.proofs.Calls.CallHoldsLaws.{CallsHold, differ_front, marks_append, marks_in, marks_sent, requests_at}
+use Rattle.domain_world.proofs.Calls.CallHoldsLaws.{CallsHold, differ_front, marks_append, marks_in, marks_sent}
 use Rattle.domain_world.proofs.Calls.CallStepLaws.{most_steps}
 use Rattle.domain_world.proofs.Calls.StepApartLaws.{seen_member}
 use Rattle.domain_world.proofs.Calls.WholeNotedLaws.{placed_part}
@@ -63,8 +61,7 @@ use Rattle.domain_world.proofs.Sequences.Own.OwnWalkLaws.{MemberComes}
 use Rattle.domain_world.proofs.Sequences.SeedTurnLaws.{drawn_still}
 use Rattle.domain_world.proofs.Frames.EndNoteLaws.{turns_leave}
 use Rattle.domain_world.proofs.Frames.TurnFrameLaws.{turns_sent}
-use Rattle.domain_world.proofs.Moves.RequesterLaws.{asking_end, asked_stays, asker_in, asker_is, not_that}
-use Rattle.domain_world.proofs.Calls.ByRequesterLaws.{seen_so, by_requester_apart}
+use Rattle.domain_world.proofs.Moves.RequesterLaws.{asked_stays, asker_in, not_that}
 
 -- ---- the marks that are written down
 
@@ -162,19 +159,18 @@ module _ (plan : Plan) (n at : ℕ) (w : Delivery) (piece : List ℕ)
           (λ sends. request_placed n at w piece s after b running whole_one link even bag part ok sends)
 
       -- of another requester
-      others_new : CallsHold n s.member_plans s.ends s.chances.drawn s.links b.sent b.messages → (who : RequesterId) → who ≢ OfMember at → (r : Option Running) → asker_in who s.ends ≡ r →
-          OnStanding (NoNewOn (marks_in b.sent) (marks_in d.sent)) (controller_asked who s) r
-      others_new holds who differs None runs = tt
-      others_new holds who differs (Some other) runs = λ channel stands i number timestamp e called client.
+      others_new : CallsHold n s.member_plans s.ends s.chances.drawn s.links b.sent b.messages → (k : ℕ) → k ≢ at → (r : Option Running) → asker_in k s.ends ≡ r →
+          OnStanding (NoNewOn (marks_in b.sent) (marks_in d.sent)) (controller_asked (OfMember k) s) r
+      others_new holds k differs None runs = tt
+      others_new holds k differs (Some other) runs = λ channel stands i number timestamp e called client.
           elim (behind_or (marks_in b.sent) new note.mark (only_new part_of refl) i number timestamp e
           (subst (λ (all : List Mark). slice_get all i ≡ Some (Calling e number timestamp)) now_marks called)) [
             | inl old ↦ old
             | inr mark ↦
                 (let own : stands_in its c.caller.computer c.standing ≡ Some e = called_on its c e number timestamp whole_one.unit mark in
-                let asked : ℕ = controller_asked who s in
-                let r : Requests ℕ = requests_at n s.member_plans s.ends s.chances.drawn b.sent in
-                absurd (differs ((by_requester_apart r holds.apart).apart who (OfMember at) (view_of asked other.logons.channel) (view_of its c) e.client
-                (seen_so r s (λ k. refl) who ∙ ap (view_with asked) (asker_is who s) ∙ ap (seen_running asked) runs) (ap (λ (x : Option MemberState). seen_member its x) is)
+                let asked : ℕ = controller_asked (OfMember k) s in
+                absurd (differs (holds.apart.apart k at (view_of asked other.logons.channel) (view_of its c) e.client
+                (ap (seen_running asked) runs) (ap (λ (x : Option MemberState). seen_member its x) is)
                 (record { how = inr (channel, stands, sym client) }) (record { how = inr (e, own, refl) }))))
           ]
 
@@ -208,25 +204,25 @@ module _ (plan : Plan) (n at : ℕ) (w : Delivery) (piece : List ℕ)
           let turns : d.turns ≡ b.turns = turns_leave m at w piece s after b in
           let still : StillDrawn s.chances.drawn t.chances.drawn = λ challenge was. drawn_still challenge s.chances.drawn (step_of m what s.moment s.chances.left).drawn was in
           let state : MemberState = (step_of m what s.moment s.chances.left).state in
-          let was : OwnOf plan s given b (OfMember at) (Some running) = subst (λ (found : Option MemberState). OwnOf plan s given b (OfMember at) (running_in found)) is (old.asks (OfMember at)) in
+          let was : OwnOf plan s given b (OfMember at) (Some running) = subst (λ (found : Option MemberState). OwnOf plan s given b (OfMember at) (running_in found)) is (old.asks at) in
           let now : ℕ = controller_asked (OfMember at) t in
           let own : OwnOf plan t more_given d (OfMember at) state.running = (
             asks_what_waits.keeps m running what s.moment s.chances.left refl was.0,
             subst (λ (all : List ChannelTurn). OwnIf (IsTakenFor (past_at plan t d)) (marks_in d.sent) t.chances.drawn all more_given now (OfMember at) state.running) (sym turns)
                 (subst (λ (all : List Mark). OwnIf (IsTakenFor (past_at plan t d)) all t.chances.drawn b.turns more_given now (OfMember at) state.running) (sym now_marks)
                 (subst (λ (c : ℕ). OwnIf (IsTakenFor (past_at plan t d)) (marks_in b.sent ++ new) t.chances.drawn b.turns more_given c (OfMember at) state.running)
-                (sym (asked_stays (OfMember at) s t refl grows.ends)) (own_at part_of refl holds was done differ))),
+                (sym (asked_stays at s t refl grows.ends)) (own_at part_of refl holds was done differ))),
           ) in
           record {
             before = before_stays plan s t b d refl grows given more_given still turns old.before;
             asks = own_put plan s t b d refl grows given more_given still turns at state own
-                (λ who differs.
+                (λ k differs.
                 omega (
                   arith,
-                  given_append (asking_end who) given (given_by (Member at) (actions_by (step_of m what s.moment s.chances.left).answer)),
-                  given_other (asking_end who) (Member at) (actions_by (step_of m what s.moment s.chances.left).answer) (not_that who at differs),
+                  given_append (Member k) given (given_by (Member at) (actions_by (step_of m what s.moment s.chances.left).answer)),
+                  given_other (Member k) (Member at) (actions_by (step_of m what s.moment s.chances.left).answer) (not_that k at differs),
                 ))
-                (λ who differs. others_new holds who differs (asker_in who s.ends) refl) old;
+                (λ k differs. others_new holds k differs (asker_in k s.ends) refl) old;
           }
 
   -- with what is known at that time
