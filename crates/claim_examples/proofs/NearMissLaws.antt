@@ -370,9 +370,13 @@ the_call mark reply claim =
     let it : IsMarkedAsCall (called_as mark reply) 0 7 = claim.0 7 refl in
     (it.channel, it.number, it.timestamp, ap Sent.mark (some_is (sent_at 5 mark) it.sent it.there) ∙ it.mark, it.controller)
 
+-- a call that passed wasn't handed on
+not_handed : (on_channel 0).how ≢ Some judged.Forwarded
+not_handed = λ is. absurd (let never = is in cc)
+
 the_answer : (mark : Mark) → RepliesAreMarked (called_as Plain mark) → mark ≡ ReplyTo small_name 3 7
 the_answer mark claim =
-    let it : IsMarkedAsReply (called_as Plain mark) (on_channel 0) 7 = claim.0 7 refl refl in
+    let it : IsMarkedAsReply (called_as Plain mark) (on_channel 0) 7 = claim.0 7 refl refl not_handed in
     let at : 8 ≡ it.reply = some_is 8 it.reply it.is in
     let there : Some (sent_at 6 mark) ≡ Some it.sent = ap (λ (n : ℕ). slice_get (called_as Plain mark).book.sent n) at ∙ it.there in
     ap Sent.mark (some_is (sent_at 6 mark) it.sent there) ∙ it.mark ∙ ap (λ (c : ChannelIdentity). ReplyTo c 3 7) (sym (some_is small_name it.channel it.passed))
@@ -380,7 +384,7 @@ the_answer mark claim =
 -- the step at which the reply was sent
 the_step : (moves : ℕ) → RepliesAreMarked (replied_at moves) → moves ≡ 6
 the_step moves claim =
-    let it : IsMarkedAsReply (replied_at moves) (on_channel 0) 7 = claim.0 7 refl refl in
+    let it : IsMarkedAsReply (replied_at moves) (on_channel 0) 7 = claim.0 7 refl refl not_handed in
     let at : 8 ≡ it.reply = some_is 8 it.reply it.is in
     let there : Some (sent_at moves (ReplyTo small_name 3 7)) ≡ Some it.sent = ap (λ (n : ℕ). slice_get (replied_at moves).book.sent n) at ∙ it.there in
     ap Sent.at (some_is (sent_at moves (ReplyTo small_name 3 7)) it.sent there) ∙ it.step
@@ -408,7 +412,7 @@ of_marks = record {
       let channel : other ≡ it.0 = cc in
       absurd (let never : 1 ≡ 0 = ap (λ (c : ChannelIdentity). c.controller) channel ∙ it.4 in cc);
   reply = (
-    λ n is how. subst (λ (k : ℕ). IsMarkedAsReply (called_as Plain (ReplyTo small_name 3 7)) (on_channel 0) k) (let same : 7 ≡ n = cc in same) (record {
+    λ n is how here. subst (λ (k : ℕ). IsMarkedAsReply (called_as Plain (ReplyTo small_name 3 7)) (on_channel 0) k) (let same : 7 ≡ n = cc in same) (record {
       reply = 8;
       is = refl;
       sent = sent_at 6 (ReplyTo small_name 3 7);
@@ -429,8 +433,9 @@ of_marks = record {
   fails_number = λ claim. absurd (let never : ReplyTo small_name 4 7 ≡ ReplyTo small_name 3 7 = the_answer (ReplyTo small_name 4 7) claim in cc);
   fails_unit = λ claim. absurd (let never : ReplyTo small_name 3 6 ≡ ReplyTo small_name 3 7 = the_answer (ReplyTo small_name 3 6) claim in cc);
   fails_step = λ claim. absurd (let never : 5 ≡ 6 = the_step 5 claim in cc);
-  fails_none = λ claim. let it = claim.0 7 refl refl in no_some it.reply it.is;
+  fails_none = λ claim. let it = claim.0 7 refl refl not_handed in no_some it.reply it.is;
   outside = ((λ n is. absurd (let never = is in cc)), tt);
+  handed_on = ((λ n is passed here. absurd (here refl)), tt);
 }
 
 -- ---- what members ask

@@ -297,7 +297,7 @@ replied_at moves =
 -- A message's call is marked as a call with the member's controller: not where its unit is marked as nothing, as an
 -- opening, or as a call with another one. The reply to a call that passed is marked as the reply to it: not where its
 -- unit is marked as nothing, as that of another channel, call or unit, where it was sent at another step than that of
--- the judging, or where it has no unit. Of a call from outside nothing is asked.
+-- the judging, or where it has no unit. Of a call from outside nothing is asked, nor of one that was handed on.
 pub record OfMarks : Type 0 where
   pub call : CallsAreMarked (called_as (Calling small_name 3 0) Plain)
   pub fails_plain : CallsAreMarked (called_as Plain Plain) → ⊥
@@ -311,6 +311,7 @@ pub record OfMarks : Type 0 where
   pub fails_step : RepliesAreMarked (replied_at 5) → ⊥
   pub fails_none : RepliesAreMarked (small_run (record one_logon { judged = record (on_channel 0) { reply = None } ∷ [] })) → ⊥
   pub outside : RepliesAreMarked (small_run (record one_logon { judged = record (on_channel 0) { source = Outside; reply = None } ∷ [] }))
+  pub handed_on : RepliesAreMarked (small_run (record one_logon { judged = judged_as judged.Forwarded (record (on_channel 0) { reply = None }) ∷ [] }))
 
 -- ---- what members ask
 

@@ -19,4 +19,5 @@ pub mod PlainFormLaws
 pub mod RequesterLaws
 pub mod TrustAskerLaws
 pub mod TrustFrontLaws
+pub mod TrustLinkLaws
 pub mod TrustNoBytesLaws

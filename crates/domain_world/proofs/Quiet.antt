@@ -3,3 +3,6 @@ pub mod QuietListenLaws
 pub mod QuietRunLaws
 pub mod QuietStepLaws
 pub mod QuietTurnLaws
+pub mod TrustHearLaws
+pub mod TrustSendLaws
+pub mod TrustTurnByteLaws

@@ -2,6 +2,7 @@
 pub mod Answered
 pub mod Carried
 pub mod KeysMade
+pub mod Listening
 pub mod ReadBack
 pub mod Runs
 pub mod SeenSteps

@@ -38,8 +38,7 @@ use Rattle.domain_world.specs.Past.{past}
 -- member and its controller are never apart, is of schedules that are clear: in them no credential passed on a unit
 -- made for another channel or for none, and no seed came round. Of the others `unclashed`, and a part of `opened`, ask
 -- that no credential clashed. `names`, `answered` and `opened_by` ask for a schedule besides, and `as_made`, `numbers`,
--- `whole`, `asks_for`, `reply_marks` and `opened_marks` for a schedule alone. `complete` and `one_by_one` ask for
--- logons one at a time.
+-- `whole` and `asks_for` for a schedule alone. `complete` and `one_by_one` ask for logons one at a time.
 --
 -- `IsPlainPlan` is a premise of each field but `marked`: no controller of the plan can seal, no member's channel does,
 -- and no station stands in it. Of other runs nothing is claimed yet, since what is written down of an end is read off
@@ -117,11 +116,11 @@ pub record Proved (plan : Plan) (moves : List Move) : Type 0 where
   -- that asks what the message asks.
   pub have_calls : IsPlainPlan plan → AnswersHaveCalls (past plan moves)
   pub asks_for : IsPlainPlan plan → IsJudgedAlone plan moves → IsSchedule plan moves → CallsAskForMessages (past plan moves)
-  -- The call of each message is marked as one. The reply to a call that passed, or to an opening that was accepted, is
-  -- marked as that.
+  -- The call of each message is marked as one. The reply to a call that passed and wasn't handed on, or to an opening
+  -- that was accepted, is marked as that.
   pub call_marks : IsPlainPlan plan → CallsAreMarked (past plan moves)
-  pub reply_marks : IsPlainPlan plan → IsJudgedAlone plan moves → IsSchedule plan moves → RepliesAreMarked (past plan moves)
-  pub opened_marks : IsPlainPlan plan → IsJudgedAlone plan moves → IsSchedule plan moves → OpeningsAreMarked (past plan moves)
+  pub reply_marks : IsPlainPlan plan → RepliesAreMarked (past plan moves)
+  pub opened_marks : IsPlainPlan plan → OpeningsAreMarked (past plan moves)
   -- Logons that come one at a time succeed where they can, at members that have their own computers. Whatever they come
   -- to, no credential clashes at members that have their accounts' secrets, if they have accounts, and their own names.
   pub complete : IsPlainPlan plan → IsJudgedAlone plan moves → EachSucceeds (past plan moves) moves

@@ -12,11 +12,10 @@ use Rattle.domain_world.specs.Accepting.Sequences.{RepliesAnswerCalls, TurnsAreC
 use Rattle.domain_world.specs.Claims.ChannelKinds.{OpeningsNameTheirKind}
 use Rattle.domain_world.specs.Claims.Completeness.{EachSucceeds}
 use Rattle.domain_world.specs.Claims.Counts.{EachCallRaisesOnce}
-use Rattle.domain_world.specs.Claims.MarkedUnits.{RepliesAreMarked}
 use Rattle.domain_world.specs.Claims.Names.{LetsInByName}
 use Rattle.domain_world.specs.Claims.NeverApart.{MembersAreNeverApart}
 use Rattle.domain_world.specs.Claims.OneByOne.{NoneClashes}
-use Rattle.domain_world.specs.Claims.OpeningReplies.{OpeningsAreMarked, RepliesAreToOpenings}
+use Rattle.domain_world.specs.Claims.OpeningReplies.{RepliesAreToOpenings}
 use Rattle.domain_world.specs.Claims.RequestNumbers.{RequestsHaveNumbers}
 use Rattle.domain_world.specs.Claims.SharedSequences.{SequencesAreShared}
 use Rattle.domain_world.specs.Claims.{AcceptsAllGranted, AcceptsOnlyGranted, IsClear, KeysAgree, ShortResponsesLetInOnce}
@@ -45,8 +44,6 @@ pub record IsProvedAlone (plan : Plan) (moves : List Move) : Type 0 where
   pub called : IsSchedule plan moves → IsClear (past plan moves).book → TurnsAreCalled (past plan moves)
   pub whole : IsSchedule plan moves → MarkedUnitsAreWhole (past plan moves)
   pub asks_for : IsSchedule plan moves → CallsAskForMessages (past plan moves)
-  pub reply_marks : IsSchedule plan moves → RepliesAreMarked (past plan moves)
-  pub opened_marks : IsSchedule plan moves → OpeningsAreMarked (past plan moves)
   pub complete : EachSucceeds (past plan moves) moves
   pub one_by_one : NoneClashes (past plan moves) moves
   pub never_apart : IsSchedule plan moves → IsClear (past plan moves).book → MembersAreNeverApart (past plan moves)

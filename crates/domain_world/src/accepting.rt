@@ -13,6 +13,7 @@ ghost use Rattle.world_moves.specs.World.{first_world, run};
 ghost use Rattle.domain_world.specs.Accepting.Answered.{AnswersAreHeard, AnswersAreJudged};
 ghost use Rattle.domain_world.specs.Accepting.Carried.{CarriedCallsAreHeard, JudgedAsCarried, MarkedUnitsAreWhole, MessagesAreCalled};
 ghost use Rattle.domain_world.specs.Accepting.KeysMade.{KeysAreFoundAsMade, MessagesAreMade, MessagesAreTakenAsSent};
+ghost use Rattle.domain_world.specs.Accepting.Listening.{TrustsListen};
 ghost use Rattle.domain_world.specs.Accepting.ReadBack.{OutcomesAreReadBack, RepliesAreReadBack, TurnsAreHeard};
 ghost use Rattle.domain_world.specs.Accepting.Runs.{NothingIsOpen, RunsBegin, RunsStandSo};
 ghost use Rattle.domain_world.specs.Accepting.Sequences.{CallsAreStamped, SequencesFollow, TakenCallsPass};
@@ -182,4 +183,13 @@ pub fn calls_are_stamped()
 #[tactic(auto, using(crate::proofs::Sequences::SharedLaws::taken_pass))]
 pub fn taken_calls_pass()
     ensures { TakenCallsPass }
+{}
+
+/// A controller that may hand logons on hears whole units (C706 12.6.2). Of the bytes of one whole unit it hears that
+/// unit alone, and nothing stays open on the link. What is held for its links stays bytes through each step, the calls
+/// that it hears have their ranges, and so it keeps its own. What it sends is whole, but for replies to logons that it
+/// handed on: those go back on the links on which the logons came, and are bytes, no more than an end sends at once.
+#[tactic(auto, using(crate::proofs::Quiet::TrustHearLaws::trusts_listen))]
+pub fn trusting_controllers_listen()
+    ensures { TrustsListen }
 {}

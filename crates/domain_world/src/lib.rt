@@ -12,7 +12,7 @@ pub use accepting::{
     messages_are_called, messages_are_made, messages_are_taken_as_sent, outcomes_are_read_back,
     replies_are_read_back, runs_are_heard, runs_are_proved, runs_begin, runs_stand_so,
     schedules_are_heard, schedules_send_bytes, schedules_stand_quiet, sequences_follow,
-    taken_calls_pass, what_is_heard_is_accepted,
+    taken_calls_pass, trusting_controllers_listen, what_is_heard_is_accepted,
 };
 pub use claims::{
     claims_hold_of_runs, happenings_leave_no_two_apart, hashes_follow_sets, kept_channels_are_last,

@@ -1,59 +1,60 @@
--- In every schedule a call that passed, or an opening that was accepted, and came in a unit of the bag, has its reply
--- marked as the reply to it. Through all moves this rests on what is under way. It serves `Proved.reply_marks` and
--- `Proved.opened_marks`.
-use Rattle.std.proofs.Common.{◌≡◌, ℕ, ◌+◌, ◌≤◌, true, false, List, ◌++◌, drop, length, map, Some, refl, sym, ap, subst, ◌∙◌, slice_get}
+-- In every run of a plain plan a call that passed and wasn't handed on, or an opening that was accepted, and came in a
+-- unit of the bag, has its reply marked as the reply to it. It serves `Proved.reply_marks` and `Proved.opened_marks`.
+use Rattle.std.proofs.Common.{◌≡◌, ◌≢◌, ℕ, ◌≤◌, Bool, true, false, List, [], ◌++◌, drop, length, map, Option, Some, None, inl, inr, refl, sym, ap, subst, ◌∙◌, slice_get}
 use Rattle.std.specs.List.{AllByRecursion}
+use Rattle.outside.specs.declared.action.Judged.TheVariants as judged
 use Rattle.outside.specs.declared.event.Event.TheVariants as event
-use Rattle.outside.proofs.CounterLaws.{challenges_from-none}
 use Rattle.end_links.specs.Serving.{ServedUnit}
+use Rattle.channel_turns.specs.Turning.{is_on}
+use Rattle.channel_turns.specs.declared.state.TurnTalk.{TurnTalk}
 use Rattle.domain_controller.specs.State.{State as ControllerState}
+use Rattle.domain_controller.specs.TrustStep.{trust_step_of}
+use Rattle.domain_controller.specs.declared.state.Running.{Running as ControllerRunning}
 use Rattle.member_server.specs.State.{State as MemberState}
 use Rattle.member_server.specs.Turns.{AtTurn}
-use Rattle.channel_turns.specs.declared.state.TurnTalk.{TurnTalk}
 use Rattle.channel_events.specs.Marks.{Mark, Opened, ReplyTo}
-use Rattle.wire_base.proofs.ListLaws.{all_weaker, got_append, some_is}
-use Rattle.step_notes.specs.ControllerNotes.{Answered, has_passed, units_of_controller}
+use Rattle.wire_base.proofs.AllLaws.{all_zip}
+use Rattle.wire_base.proofs.ListLaws.{all_weaker, got_append, got_nothing, some_is}
+use Rattle.step_notes.specs.ControllerNotes.{Answered, Where, has_passed}
 use Rattle.step_notes.specs.Judged.{IsJudgedRight}
 use Rattle.step_notes.specs.Marking.{answered_marks, turn_marks}
 use Rattle.step_notes.specs.MemberNotes.{turn_note, turn_units}
 use Rattle.step_notes.specs.Records.{Book, ChannelAccepted, InUnit, Judging, Sent, Source, OfMember}
+use Rattle.step_notes.specs.TrustNotes.{trust_answer_on, trust_units_by, trust_units_of, units_beside_turn}
+use Rattle.step_notes.proofs.Controllers.TrustReplyLaws.{trust_replies_sent}
+use Rattle.world_moves.specs.declared.bag.BagUnit.{BagUnit}
 use Rattle.world_moves.specs.declared.links.EndId.{EndId}
-use Rattle.world_moves.specs.declared.links.EndId.TheVariants.{Client, Controller, Member}
+use Rattle.world_moves.specs.declared.links.EndId.TheVariants.{Controller, Member}
 use Rattle.world_moves.specs.declared.links.Route.{Route}
+use Rattle.world_moves.specs.declared.moves.Move.{Move}
 use Rattle.world_moves.specs.declared.plan.Plan.{Plan}
 use Rattle.world_moves.specs.declared.state.State.{State}
-use Rattle.world_moves.specs.Acting.{Given, AfterHearing, done, heard_by}
+use Rattle.world_moves.specs.Acting.{AfterHearing, Given, heard_by}
 use Rattle.world_moves.specs.Ends.{EndStep}
-use Rattle.world_moves.specs.Links.{acceptor_of, is_own, kind_of}
-use Rattle.world_moves.specs.Moving.{begun, with_link, changed}
-use Rattle.world_moves.specs.Alone.{alone_controller_step as controller_step, hear_alone as hear}
+use Rattle.world_moves.specs.Links.{is_own, kind_of}
+use Rattle.world_moves.specs.Plain.{IsPlainPlan, plain_controller_step as controller_step, plain_member_step as member_step}
 use Rattle.domain_world.specs.Claims.MarkedUnits.{IsMarkedAsReply, RepliesAreMarked}
 use Rattle.domain_world.specs.Claims.OpeningReplies.{IsMarkedAsOpened, OpeningsAreMarked}
-use Rattle.domain_world.specs.Past.{Delivery, Past, accepted_of, at_controller, judged_of, marks_of, note_client, note_given, note_member, note_messages, numbers_on, past, sent_at, controller_asked}
-use Rattle.domain_world.specs.Schedules.{OfSchedules}
-use Rattle.domain_world.proofs.Frames.AloneNoteLaws.{alone_answers as answers_of, note_alone as note_at, note_controller_alone as note_controller}
-use Rattle.domain_world.proofs.Frames.AloneStepLaws.{act_alone as hear_and_act}
+use Rattle.domain_world.specs.Past.{Delivery, Past, accepted_of, answers_of, at_controller, controller_asked, heard_marks, judged_of, marks_of, note_at, note_client, note_controller, note_given, note_member, note_messages, numbers_on, onto, past, sent_at}
 use Rattle.domain_world.proofs.Acceptance.AnsweredLaws.{StandsFor, channel_there}
-use Rattle.domain_world.proofs.Acceptance.Heard.JudgedRunLaws.{judged_first, judged_keeps}
-use Rattle.domain_world.proofs.Acceptance.Heard.JudgedUnitLaws.{AreOwn, JudgedFact}
-use Rattle.domain_world.proofs.Quiet.QuietRunLaws.{has_bytes, quiet_first}
-use Rattle.domain_world.proofs.Quiet.QuietStepLaws.{QuietFact}
-use Rattle.domain_world.proofs.Acceptance.Turns.TurnRunLaws.{Known, KnownAction, known_keep}
-use Rattle.wire_base.proofs.AllLaws.{all_zip}
+use Rattle.domain_world.proofs.Acceptance.Heard.JudgedUnitLaws.{AreOwn, JudgedStand, acts_stand, settled_stand}
 use Rattle.domain_world.proofs.Frames.BagFrameLaws.{IsServer}
-use Rattle.domain_world.proofs.Moves.ComingLaws.{CameFrom, IsPieceOf}
-use Rattle.domain_world.proofs.Moves.DrawnRunLaws.{given_all}
-use Rattle.domain_world.proofs.Frames.EndNoteLaws.{accepted_so, acted_by, judged_so}
-use Rattle.domain_world.proofs.Moves.FrontLaws.{controller_front, controller_way}
-use Rattle.domain_world.proofs.Moves.MarkNumberLaws.{AtNumbers, IsGiven, IsMarkedAt, given_at, marks_numbered, numbers_enough, numbers_so}
-use Rattle.domain_world.proofs.Moves.OpenMadeLaws.{IsAtSide}
-use Rattle.domain_world.proofs.Frames.StepFrameLaws.{AnyAction, BothFacts, BothFine, HasHeard, HoldsAfterRun, StepKeeps, RunFact, all_any, join, run_keeps, with_side}
+use Rattle.domain_world.proofs.Frames.EndNoteLaws.{accepted_so, judged_so}
+use Rattle.domain_world.proofs.Frames.EveryStepLaws.{act_plain, every_acted, stepped}
+use Rattle.domain_world.proofs.Frames.MoveFrameLaws.{HoldsAfterMoves}
+use Rattle.domain_world.proofs.Frames.MoveKeepLaws.{Both, KeepsMovesBy, MoveFact, NoSide, beside, coming, every, join_moves}
+use Rattle.domain_world.proofs.Frames.PlainFrameLaws.{moves_keep_plain}
 use Rattle.domain_world.proofs.Frames.TurnFrameLaws.{turns_sent}
 use Rattle.domain_world.proofs.Judgements.JudgedLaws.{judged_rightly, onto_hold}
-use Rattle.domain_world.proofs.Judgements.Openings.OpeningMarkLaws.{HasAnswer, accepts_so, all_answered, answer_so, onto_all}
+use Rattle.domain_world.proofs.Judgements.Openings.OpeningMarkLaws.{HasAnswer, all_answered, answer_so, onto_all, trust_accepts_so}
 use Rattle.domain_world.proofs.Judgements.ReplyMarkLaws.{HasReply, answers_replied, answers_so, reply_so}
-use Rattle.domain_world.proofs.Calls.CallFrameLaws.{first_calls}
-use Rattle.world_moves.specs.Plain.{plain_member_step as member_step}
+use Rattle.domain_world.proofs.Judgements.TrustReplyLaws.{IsServed, nothing_taken, served}
+use Rattle.domain_world.proofs.Moves.AcceptedLinkLaws.{AcceptedLinks, IsAccepted, SuchIf, accepted_keep, first_accepted}
+use Rattle.domain_world.proofs.Moves.ComingLaws.{CameFrom, IsPieceOf}
+use Rattle.domain_world.proofs.Moves.EvenLaws.{EvenFact, even_keep, first_even}
+use Rattle.domain_world.proofs.Moves.MarkNumberLaws.{AtNumbers, IsGiven, IsMarkedAt, given_at, marks_numbered, numbers_enough, numbers_so}
+use Rattle.domain_world.proofs.Moves.OpenMadeLaws.{IsOnSide}
+use Rattle.domain_world.proofs.Moves.TrustFrontLaws.{accepted_way, trust_front}
 
 -- ---- what is to hold
 
@@ -61,12 +62,16 @@ record MarksStand (b : Book) : Type 0 where
   replies : AllByRecursion (HasReply (IsMarkedAt b.sent)) b.judged
   opened : AllByRecursion (HasAnswer (IsMarkedAt b.sent)) b.accepted
 
-abbrev MarksHold : RunFact
-MarksHold n s given b = MarksStand b
+abbrev MarksHold : MoveFact
+MarksHold n p s given b = MarksStand b
 
--- units went between ends of the world, on which what is known of marks rests
-abbrev MarksRestOn : RunFact
-MarksRestOn n s given b = AreOwn s.bag
+-- each unit of the bag went on a link of ends of this world
+abbrev OwnBag : MoveFact
+OwnBag n p s given b = JudgedStand s.bag []
+
+-- on which what is known of marks rests
+abbrev MarksRestOn : MoveFact
+MarksRestOn = Both (Both AcceptedLinks EvenFact) OwnBag
 
 -- ---- what is known of marks stays known
 
@@ -97,36 +102,79 @@ stand_on b d grow judged accepted stand = record {
 -- ---- bytes come at a controller
 
 module _ (c : ControllerState) (at : ℕ) (w : Delivery) (piece : List ℕ) (s : State) (b : Book) where
-  abbrev desk_heard : AfterHearing
-  desk_heard = heard_by (controller_step (Some c) at (event.Bytes w.link piece) s.moment s.ends s.chances) s
+  abbrev its : Where
+  its = at_controller at c w s
 
-  controller_stands : (after : State) → after ≡ (done (Controller at) desk_heard).state → IsAtSide s.links w.link w.back (Controller at) → CameFrom w.source s w piece → AreOwn s.bag →
-      length b.sent ≡ length s.bag → MarksStand b → MarksStand (note_controller (Some c) at w piece s after b)
-  controller_stands after is side came own even stand =
-      let answers : List Answered = answers_of at c w piece s in
-      let marks : List Mark = answered_marks answers in
-      let given : List Mark = marks_of w.link true (drop (length s.bag) after.bag) marks in
-      let numbers : List ℕ = numbers_on w.link true s.bag after.bag in
+  abbrev answers : List Answered
+  answers = answers_of at c w piece s
+
+  abbrev marks : List Mark
+  marks = answered_marks answers
+
+  abbrev heard : AfterHearing
+  heard = heard_by (controller_step (Some c) at (event.Bytes w.link piece) s.moment s.ends s.chances) s
+
+  abbrev after : State
+  after = stepped (Controller at) (controller_step (Some c) at (event.Bytes w.link piece) s.moment s.ends s.chances) s
+
+  abbrev numbers : List ℕ
+  numbers = numbers_on w.link true s.bag after.bag
+
+  abbrev now : Book
+  now = note_controller (Some c) at w piece s after b
+
+  abbrev units : List BagUnit
+  units = drop (length s.bag) after.bag
+
+  -- where no call is answered, none is written down
+  none_stands : answers ≡ [] → MarksStand b → MarksStand now
+  none_stands none stand =
+      stand_on b now
+      (λ n one there. got_append b.sent (map (sent_at w.at) (heard_marks (is_on w.link c.trusting.dialling) at c w piece s after b.forwards units)) n one there)
+      (ap (λ (all : List Answered). onto (judged_of all numbers) b.judged) none) (ap (λ (all : List Answered). onto (accepted_of all numbers) b.accepted) none) stand
+
+  -- on an accepted link
+  accepted_stands : is_on w.link c.trusting.dialling ≡ false → IsServed s at c w.link → CameFrom w.source s w piece → AreOwn s.bag → length b.sent ≡ length s.bag → MarksStand b → MarksStand now
+  accepted_stands off link came own even stand =
+      let given : List Mark = marks_of w.link true units marks in
       let sent : List Sent = b.sent ++ map (sent_at w.at) given in
+      let same : now.sent ≡ sent = ap (λ (on : Bool). b.sent ++ map (sent_at w.at) (heard_marks on at c w piece s after b.forwards units)) off in
       let grow : GrowTo b.sent sent = λ n one there. got_append b.sent (map (sent_at w.at) given) n one there in
       let numbered_at : AtNumbers (IsMarkedAt sent w.at) marks numbers =
       numbers_so (IsGiven given (length s.bag)) (IsMarkedAt sent w.at) (λ n mark it. given_at b.sent (length s.bag) w.at given n mark even it) marks numbers
-      (marks_numbered w.link true (drop (length s.bag) after.bag) marks (length s.bag)) in
+      (marks_numbered w.link true units marks (length s.bag)) in
       let enough : (n : ℕ) → w.source ≡ InUnit n → length marks ≤ length numbers = λ n source.
       (let piece_of : IsPieceOf s n w piece = subst (λ (from : Source). CameFrom from s w piece) source came in
-      let same : piece_of.route ≡ side.route = some_is piece_of.route side.route (sym piece_of.made ∙ side.made) in
-      subst (λ (t : State). length marks ≤ length (numbers_on w.link true s.bag t.bag)) (sym is)
-      (numbers_enough side.route (Controller at) w.link true (controller_way w.back side.route at side.apart side.side) desk_heard.actions marks desk_heard.state side.made
-      (sym (ap (λ (r : Route). is_own (kind_of r)) same) ∙ ap is_own piece_of.same_kind ∙ own n piece_of.unit piece_of.there)
-      (controller_front c w.link piece s.moment s.chances.left (at_controller at c w s)))) in
+      let route : piece_of.route ≡ link.is.route = some_is piece_of.route link.is.route (sym piece_of.made ∙ link.is.made) in
+      numbers_enough link.is.route (Controller at) w.link true (accepted_way link.is.route at link.is.acceptor) heard.actions marks heard.state link.is.made
+      (sym (ap (λ (r : Route). is_own (kind_of r)) route) ∙ ap is_own piece_of.same_kind ∙ own n piece_of.unit piece_of.there)
+      (trust_front c its w.link piece s.moment s.chances.left off (λ actions is. trust_replies_sent c w.at at w.source w.link piece s.moment s.chances.left actions off is))) in
       record {
-        replies = onto_hold (HasReply (IsMarkedAt sent)) (judged_of answers numbers) b.judged
-            (answers_replied (IsMarkedAt sent) w.at w.source answers numbers (answers_so (at_controller at c w s) w.link (units_of_controller c w.link piece s.moment s.chances.left)) numbered_at enough)
-            (replies_still b.sent sent b.judged grow stand.replies);
-        opened = onto_all (HasAnswer (IsMarkedAt sent)) (accepted_of answers numbers) b.accepted
-            (all_answered (IsMarkedAt sent) w.at w.source answers numbers (accepts_so (at_controller at c w s) w.link (units_of_controller c w.link piece s.moment s.chances.left)) numbered_at enough)
-            (opened_still b.sent sent b.accepted grow stand.opened);
+        replies = subst (λ (all : List Sent). AllByRecursion (HasReply (IsMarkedAt all)) now.judged) (sym same)
+            (onto_hold (HasReply (IsMarkedAt sent)) (judged_of answers numbers) b.judged
+            (answers_replied (IsMarkedAt sent) w.at w.source answers numbers (answers_so its w.link (trust_units_of c w.link piece s.moment s.chances.left)) numbered_at enough)
+            (replies_still b.sent sent b.judged grow stand.replies));
+        opened = subst (λ (all : List Sent). AllByRecursion (HasAnswer (IsMarkedAt all)) now.accepted) (sym same)
+            (onto_all (HasAnswer (IsMarkedAt sent)) (accepted_of answers numbers) b.accepted
+            (all_answered (IsMarkedAt sent) w.at w.source answers numbers (trust_accepts_so its w.link (trust_units_of c w.link piece s.moment s.chances.left)) numbered_at enough)
+            (opened_still b.sent sent b.accepted grow stand.opened));
       }
+
+  -- on the link of its turn no call is answered
+  -- on the link of its turn no call is answered
+  turn_none : (found : Option ControllerRunning) → is_on w.link c.trusting.dialling ≡ true → trust_units_by found w.link piece c s.moment s.chances.left ≡ []
+  turn_none None on = refl
+  turn_none (Some running) on = ap (λ (is_turn_link : Bool). units_beside_turn is_turn_link w.link piece c running s.moment s.chances.left) on
+
+  by_link : (on : Bool) → is_on w.link c.trusting.dialling ≡ on → SuchIf (IsAccepted s.links at) c.running → CameFrom w.source s w piece → AreOwn s.bag → length b.sent ≡ length s.bag → MarksStand b →
+      MarksStand now
+  by_link true on all came own even stand =
+      none_stands (ap (λ all. map (trust_answer_on w.link its) all)
+      (nothing_taken (trust_step_of c (event.Bytes w.link piece) s.moment s.chances.left).answer (trust_units_by c.running w.link piece c s.moment s.chances.left) (turn_none c.running on))) stand
+  by_link false off all came own even stand = elim (served c at w piece s all off) [
+    | inl none ↦ none_stands none stand
+    | inr link ↦ accepted_stands off link came own even stand
+  ]
 
 -- ---- bytes come at a member
 
@@ -144,81 +192,95 @@ member_stands m at w piece s after b stand =
 
 -- ---- through all moves
 
-end_stands : (end : EndId) (w : Delivery) (piece : List ℕ) (s : State) (b : Book) → AreOwn s.bag → IsAtSide s.links w.link w.back end → CameFrom w.source s w piece →
-    (IsServer end → length b.sent ≡ length s.bag) → MarksStand b → MarksStand (note_at (Some end) w piece s (hear_and_act end (event.Bytes w.link piece) s).state b)
-end_stands end w piece s b own here came even stand =
-    acted_by (λ (one : EndId) (step : EndStep) (after : State) (now : Book). IsAtSide s.links w.link w.back one → (IsServer one → length b.sent ≡ length s.bag) → MarksStand now) w piece s b
-    (λ one at_side marked. stand)
-    (λ at c there at_side marked.
-    controller_stands c at w piece s b (done (Controller at) (desk_heard c at w piece s b)).state refl at_side came own (marked refl) stand)
-    (λ at m there at_side marked.
-    member_stands m at w piece s (done (Member at) (heard_by (member_step (Some m) at (event.Bytes w.link piece) s.moment s.ends s.chances) s)).state b stand)
-    (λ at c there at_side marked. stand_on b (note_client (Some c) at w piece s b) (λ k one is. is) refl refl stand) end here even
+end_stands : (n : ℕ) (end : EndId) (w : Delivery) (piece : List ℕ) (s : State) (given : Given) (b : Book) → IsOnSide s.links w.link w.back end → CameFrom w.source s w piece →
+    MarksRestOn n (coming w) s given b → MarksStand b → MarksStand (note_at (Some end) w piece s (act_plain end (event.Bytes w.link piece) s).state b)
+end_stands n end w piece s given b here came side stand =
+    every_acted (λ (one : EndId) (step : EndStep) (after : State) (now : Book). (IsServer one → length b.sent ≡ length s.bag) → MarksStand now) w piece s b
+    (λ one even. stand)
+    (λ at c there even. by_link c at w piece s b (is_on w.link c.trusting.dialling) refl (side.0.0 at c there) came side.1.kinds (even refl) stand)
+    (λ at m there even. member_stands m at w piece s (stepped (Member at) (member_step (Some m) at (event.Bytes w.link piece) s.moment s.ends s.chances) s) b stand)
+    (λ at c there even. stand_on b (note_client (Some c) at w piece s b) (λ k one is. is) refl refl stand) end (λ server. side.0.1.all end here server)
 
-quietly : (n : ℕ) (end : EndId) (heard : AfterHearing) (given : Given) (b : Book) → MarksStand b → HasHeard MarksHold AnyAction (n + 1) end heard given b
-quietly n end heard given b stand = record { holds = stand; fine = all_any heard.actions }
-
-marks_keep : StepKeeps MarksRestOn MarksHold AnyAction
+marks_keep : KeepsMovesBy every ⊥ MarksRestOn MarksHold
 marks_keep = record {
-  calm = λ n end what s given b calm own stand. quietly n end (hear end what s) given b stand;
-  dialled = λ n end link s given b here own stand. quietly n end (hear end (event.Dialled link) s) given b stand;
-  opens = λ n route s given b own stand. quietly n (acceptor_of route) (hear (acceptor_of route) (event.Opened (length s.links)) (with_link route s)) given b stand;
-  begins = λ n client own s given b is units stand. quietly n (Client client) (begun client own s) given b stand;
-  comes = λ n end w piece s given b here came bytes marked own stand.
-      record { holds = end_stands end w piece s b own here came marked stand; fine = all_any (hear end (event.Bytes w.link piece) s).actions };
-  acts = λ n end what s given b fine own stand. stand;
-  shuts = λ n link s given b own stand. stand;
-  answers = λ n link there s given b is own stand. stand;
-  forgets = λ n end s given b own stand. stand;
-  settles = λ n number s given b own stand. stand;
-  dials = λ n s given b own stand. stand;
-  renews = λ n end s given b own stand. stand;
-  changes = λ n member secret s given b own stand. quietly n (Member member) (changed member secret s) given b stand;
-  ticks = λ n more s given b own stand. stand;
-  over = λ n at s given b own stand. stand_on b (note_given at given s b) (λ k one is. got_append b.sent _ k one is) refl refl stand;
+  closes = λ n p end link s given b work side stand. stand;
+  opens = λ n at dial route s given b out side stand. stand;
+  dialled = λ n at end link s given b here side stand. stand;
+  fails = λ n at end s b side stand. stand;
+  begins = λ n at client plan s b is side stand. stand;
+  comes = λ n end w piece s given b here came bytes side stand. end_stands n end w piece s given b here came side stand;
+  reaches = λ n w s given b side stand. stand;
+  acts = λ n p end what s given b work side stand. stand;
+  shuts = λ n p link s given b work side stand. stand;
+  answers = λ n at dial link there s given b is side stand. stand;
+  forgets = λ n at end s b side stand. stand;
+  settles = λ n at on number s b side stand. stand;
+  dials = λ n at dial s b is side stand. stand;
+  renews = λ n at end s b side stand. stand;
+  changes = λ n at member secret s b formed side stand. stand;
+  ticks = λ n at more s b side stand. stand;
+  over = λ n at on next s given b side stand. stand_on b (note_given at given s b) (λ k one is. got_append b.sent _ k one is) refl refl stand;
+}
+
+own_keep : KeepsMovesBy every ⊥ NoSide OwnBag
+own_keep = record {
+  closes = λ n p end link s given b work side own. own;
+  opens = λ n at dial route s given b out side own. own;
+  dialled = λ n at end link s given b here side own. own;
+  fails = λ n at end s b side own. own;
+  begins = λ n at client plan s b is side own. own;
+  comes = λ n end w piece s given b here came bytes side own. own;
+  reaches = λ n w s given b side own. own;
+  acts = λ n p end what s given b work side own. acts_stand end what s [] own;
+  shuts = λ n p link s given b work side own. own;
+  answers = λ n at dial link there s given b is side own. own;
+  forgets = λ n at end s b side own. own;
+  settles = λ n at on number s b side own. settled_stand number s.bag [] own;
+  dials = λ n at dial s b is side own. own;
+  renews = λ n at end s b side own. own;
+  changes = λ n at member secret s b formed side own. own;
+  ticks = λ n at more s b side own. own;
+  over = λ n at on next s given b side own. own;
 }
 
 -- ---- a run
 
--- what is known of a run, with what holds of marks
-abbrev MarkFacts : Plan → RunFact
-MarkFacts plan = BothFacts (BothFacts (Known plan) JudgedFact) MarksHold
-
-marks_hold : OfSchedules (λ plan moves. MarksStand (past plan moves).book)
-marks_hold plan moves nobody schedule =
-    let beneath : RunFact = BothFacts (Known plan) JudgedFact in
-    let after : HoldsAfterRun (MarkFacts plan) plan moves =
-    run_keeps (MarkFacts plan) (BothFine (BothFine KnownAction AnyAction) AnyAction)
-    (join beneath MarksHold (BothFine KnownAction AnyAction) AnyAction
-    (join (Known plan) JudgedFact KnownAction AnyAction (known_keep plan) (with_side QuietFact (Known plan) JudgedFact AnyAction (λ n s given b known. known.0.0) judged_keeps))
-    (with_side MarksRestOn beneath MarksHold AnyAction (λ n s given b known. known.1.kinds) marks_keep))
-    plan moves nobody (has_bytes plan moves nobody schedule) (
+marks_hold : (plan : Plan) (moves : List Move) → IsPlainPlan plan → MarksStand (past plan moves).book
+marks_hold plan moves nothing =
+    let links : KeepsMovesBy every ⊥ NoSide (Both AcceptedLinks EvenFact) =
+    join_moves ⊥ AcceptedLinks EvenFact (accepted_keep ⊥) (beside ⊥ AcceptedLinks EvenFact (even_keep ⊥)) in
+    let sides : KeepsMovesBy every ⊥ NoSide MarksRestOn =
+    join_moves ⊥ (Both AcceptedLinks EvenFact) OwnBag links (beside ⊥ (Both AcceptedLinks EvenFact) OwnBag own_keep) in
+    let after : HoldsAfterMoves ⊥ (Both MarksRestOn MarksHold) plan moves =
+    moves_keep_plain ⊥ (Both MarksRestOn MarksHold) (join_moves ⊥ MarksRestOn MarksHold sides marks_keep) plan moves nothing (λ none. absurd none)
+    (λ on. (
       (
-        ((quiet_first plan schedule.start schedule.forms, first_calls plan), ap (λ (drawn : List (List ℕ)). drawn ++ given_all plan) (challenges_from-none plan.seed 0 0)),
-        judged_first,
+        (first_accepted plan, first_even plan on),
+        record { kinds = λ n unit there. absurd (got_nothing n unit there); judged = tt },
       ),
       record { replies = tt; opened = tt },
-    ) in
+    )) in
     after.holds.1
 
--- the reply to each call that passed, and came in a unit of the bag, is marked as that
-pub replies_marked : OfSchedules (λ plan moves. RepliesAreMarked (past plan moves))
-replies_marked plan moves nobody schedule =
+-- the reply to each call that passed, wasn't handed on, and came in a unit of the bag, is marked as that
+pub replies_marked : (plan : Plan) (moves : List Move) → IsPlainPlan plan → RepliesAreMarked (past plan moves)
+replies_marked plan moves nothing =
     let p : Past = past plan moves in
-    all_zip (HasReply (IsMarkedAt p.book.sent)) IsJudgedRight (λ (j : Judging). (n : ℕ) → j.source ≡ InUnit n → has_passed j.how ≡ true → IsMarkedAsReply p j n) p.book.judged
-    (λ j has right n came passed.
+    all_zip (HasReply (IsMarkedAt p.book.sent)) IsJudgedRight
+    (λ (j : Judging). (n : ℕ) → j.source ≡ InUnit n → has_passed j.how ≡ true → j.how ≢ Some judged.Forwarded → IsMarkedAsReply p j n) p.book.judged
+    (λ j has right n came passed here.
     let stands : StandsFor j = channel_there j right passed in
-    let it = has n stands.channel came stands.passed in
+    let it = has n stands.channel came stands.passed here in
     let marked : IsMarkedAt p.book.sent j.at it.0 (ReplyTo stands.channel j.number n) = it.2 in
     record { reply = it.0; is = it.1; sent = marked.one; there = marked.there; channel = stands.channel; passed = stands.passed; mark = marked.is; step = marked.step })
-    (marks_hold plan moves nobody schedule).replies (judged_rightly plan moves)
+    (marks_hold plan moves nothing).replies (judged_rightly plan moves)
 
 -- the reply to each opening that was accepted, and came in a unit of the bag, is marked as that
-pub openings_marked : OfSchedules (λ plan moves. OpeningsAreMarked (past plan moves))
-openings_marked plan moves nobody schedule =
+pub openings_marked : (plan : Plan) (moves : List Move) → IsPlainPlan plan → OpeningsAreMarked (past plan moves)
+openings_marked plan moves nothing =
     let p : Past = past plan moves in
     all_weaker (HasAnswer (IsMarkedAt p.book.sent)) (λ (one : ChannelAccepted). (n : ℕ) → one.source ≡ InUnit n → IsMarkedAsOpened p one n) p.book.accepted
     (λ one has n came.
     let it = has n came in
     let marked : IsMarkedAt p.book.sent one.at it.0 (Opened one.channel one.number n) = it.2 in
-    record { reply = it.0; is = it.1; sent = marked.one; there = marked.there; mark = marked.is; step = marked.step }) (marks_hold plan moves nobody schedule).opened
+    record { reply = it.0; is = it.1; sent = marked.one; there = marked.there; mark = marked.is; step = marked.step }) (marks_hold plan moves nothing).opened

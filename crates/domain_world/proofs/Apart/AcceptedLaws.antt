@@ -97,4 +97,4 @@ module _ (p : Past) (replies : RepliesAreToOpenings p) where
 
 pub openings_made : OfSchedules (λ plan moves. OpeningsAreMade (past plan moves))
 openings_made plan moves nobody schedule calm =
-    all_made (past plan moves) (replies_to_openings plan moves nobody schedule calm) (past plan moves).book.accepted (openings_marked plan moves nobody schedule)
+    all_made (past plan moves) (replies_to_openings plan moves nobody schedule calm) (past plan moves).book.accepted (openings_marked plan moves nobody.plain)

@@ -89,7 +89,7 @@ schedules_tell plan moves nobody schedule clear = record {
   clash = clear;
   once = once_by_pairs (past plan moves).book.accepted (openings_in_order plan moves nobody.plain).once;
   openings = all_weaker (λ (one : ChannelAccepted). (n : ℕ) → one.source ≡ InUnit n → IsMarkedAsOpened (past plan moves) one n) (OpensIn (marks_in (past plan moves).book.sent))
-      (past plan moves).book.accepted (opens_one (past plan moves) (replies_to_openings plan moves nobody schedule clear)) (openings_marked plan moves nobody schedule);
+      (past plan moves).book.accepted (opens_one (past plan moves) (replies_to_openings plan moves nobody schedule clear)) (openings_marked plan moves nobody.plain);
   replies = request_is (past plan moves) (each_marked plan moves) (replies_answer plan moves nobody schedule clear);
   judged = answered_is (past plan moves) (each_marked plan moves) (replies_answer plan moves nobody schedule clear);
 }

@@ -1,6 +1,6 @@
 -- What a step of an end leaves of the challenges in every world, whether something seals there or not: a rest of those
 -- that were left. It serves `draws_of_runs_differ` and `what_is_not_handed_on_runs_alone`.
-use Rattle.std.proofs.Common.{◌≡◌, ◌==◌, ℕ, Bool, true, false, List, [], ◌∷◌, ◌++◌, Option, Some, None, Result, Ok, Err, slice_get, refl}
+use Rattle.std.proofs.Common.{◌==◌, ℕ, Bool, true, false, List, [], ◌∷◌, ◌++◌, Option, Some, None, Result, Ok, Err, refl}
 use Rattle.wire_base.specs.Maps.{lookup, same_number, take_out}
 use Rattle.outside.specs.Drawing.{Drawing, IsRest}
 use Rattle.outside.specs.Machine.{Part, left_by, step_by, then_part}

@@ -1,7 +1,7 @@
 -- A plain world, through its moves: each end hears, and is made anew, as one that can't seal, and no station does. So
 -- whatever is shown of ends that hear so holds of every run of a plain plan. It serves `drive`, and
 -- the other laws of every such run.
-use Rattle.std.proofs.Common.{◌≡◌, ℕ, List, [], ◌∷◌, length, Option, Some, None, refl, sym, subst, ap, ◌∙◌, slice_get}
+use Rattle.std.proofs.Common.{◌≡◌, ℕ, List, [], length, Option, Some, None, sym, subst, ap, ◌∙◌, slice_get}
 use Rattle.std.specs.List.{AllByRecursion}
 use Rattle.outside.specs.declared.event.Event.{Event}
 use Rattle.outside.specs.declared.event.Event.TheVariants as event
@@ -20,7 +20,7 @@ use Rattle.domain_world.specs.Claims.Sessions.{restart_of}
 use Rattle.domain_world.specs.Past.{Delivery, book, note, note_at}
 use Rattle.world_moves.proofs.PlainLaws.{hears_so_plainly, moves_plain, plain_first, renews_plainly, world_plain}
 use Rattle.domain_world.proofs.Frames.MoveFrameLaws.{HoldsAfterMoves, later_keeps, move_keeps, moves_carry, moves_keep}
-use Rattle.domain_world.proofs.Frames.MoveKeepLaws.{Both, IsHeard, KeepsCalmMovesBy, KeepsMovesBy, MoveFact, NoSide, Progress, StationsStart, any, but_renewed, coming, every, join_calm, join_moves, started, waiting, with_rest}
+use Rattle.domain_world.proofs.Frames.MoveKeepLaws.{Both, IsHeard, KeepsCalmMovesBy, KeepsMovesBy, MoveFact, NoSide, Progress, StationsStart, any, but_renewed, coming, every, join_calm, join_moves, started, waiting}
 use Rattle.domain_world.proofs.Moves.PlacedLaws.{HandsBytes, HasBytes, IsBytesBag, IsPlaced}
 use Rattle.interactive_station.specs.declared.plan.StationPlan.{StationPlan}
 use Rattle.wire_base.proofs.ListLaws.{got_nothing}

@@ -320,13 +320,13 @@ abbrev OfUnit : Plan → UnitFact (List Judging)
 OfUnit plan judgings number unit mark = IsReplyOfAny plan judgings number unit.bytes mark
 
 -- where no units are served, none is written down as answered, whether the step is taken or not
-nothing_taken : {U : Type 0} (given : Result (List Action) StepRefused) (units : List U) → units ≡ [] → units_if_taken given units ≡ []
+pub nothing_taken : {U : Type 0} (given : Result (List Action) StepRefused) (units : List U) → units ≡ [] → units_if_taken given units ≡ []
 nothing_taken (Ok actions) units none = none
 nothing_taken (Err why) units none = refl
 
 -- the link of that number is one that the controller accepted
-record IsServed (s : State) (at : ℕ) (c : ControllerState) (number : ℕ) : Type 0 where
-  is : IsAccepted s.links at number
+pub record IsServed (s : State) (at : ℕ) (c : ControllerState) (number : ℕ) : Type 0 where
+  pub is : IsAccepted s.links at number
 
 module _ (c : ControllerState) (at : ℕ) (w : Delivery) (piece : List ℕ) (s : State) (all : SuchIf (IsAccepted s.links at) c.running) (off : is_on w.link c.trusting.dialling ≡ false) where
   abbrev its : Where
@@ -353,7 +353,8 @@ module _ (c : ControllerState) (at : ℕ) (w : Delivery) (piece : List ℕ) (s :
   running_by None is such = inl (none_by None is refl)
   running_by (Some running) is such = link_by running (lookup same_number w.link running.links) is refl such
 
-  served : (answers_of at c w piece s ≡ []) ⊎ IsServed s at c w.link
+  -- nothing is answered there, or the controller accepted the link
+  pub served : (answers_of at c w piece s ≡ []) ⊎ IsServed s at c w.link
   served = running_by c.running refl all
 
   abbrev after : State

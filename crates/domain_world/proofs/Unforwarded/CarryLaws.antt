@@ -15,11 +15,10 @@ use Rattle.domain_world.specs.Claims.{AcceptsAllGranted, AcceptsOnlyGranted, IsC
 use Rattle.domain_world.specs.Claims.ChannelKinds.{OpeningsNameTheirKind}
 use Rattle.domain_world.specs.Claims.Completeness.{EachSucceeds}
 use Rattle.domain_world.specs.Claims.Counts.{EachCallRaisesOnce}
-use Rattle.domain_world.specs.Claims.MarkedUnits.{RepliesAreMarked}
 use Rattle.domain_world.specs.Claims.Names.{LetsInByName}
 use Rattle.domain_world.specs.Claims.NeverApart.{MembersAreNeverApart}
 use Rattle.domain_world.specs.Claims.OneByOne.{NoneClashes}
-use Rattle.domain_world.specs.Claims.OpeningReplies.{OpeningsAreMarked, RepliesAreToOpenings}
+use Rattle.domain_world.specs.Claims.OpeningReplies.{RepliesAreToOpenings}
 use Rattle.domain_world.specs.Claims.RequestNumbers.{RequestsHaveNumbers}
 use Rattle.domain_world.specs.Claims.SharedSequences.{SequencesAreShared}
 use Rattle.domain_world.specs.Past.{Past, past}
@@ -28,7 +27,7 @@ use Rattle.domain_world.proofs.Unforwarded.ApartSeenLaws.{never_apart_so}
 use Rattle.domain_world.proofs.Unforwarded.ErasedBookLaws.{asker_unused, books_alone}
 use Rattle.domain_world.proofs.Unforwarded.ErasedLaws.{runs_alone}
 use Rattle.domain_world.proofs.Unforwarded.RunSeenLaws.{complete_so, one_by_one_so, schedule_seen, still_after}
-use Rattle.domain_world.proofs.Unforwarded.SeenLaws.{AreUnused, all_so, answered_so, called_so, once_so, only_so, opened_by_so, opened_marks_so, reply_marks_so, seen, shared_so}
+use Rattle.domain_world.proofs.Unforwarded.SeenLaws.{AreUnused, all_so, answered_so, called_so, once_so, only_so, opened_by_so, seen, shared_so}
 
 module _ (plan : Plan) (moves : List Move) (nothing : IsPlainPlan plan) (is : IsUnforwarded plan moves) (alone : IsProvedAlone (alone_plan plan) moves) where
   abbrev run_seen : Past
@@ -73,8 +72,6 @@ module _ (plan : Plan) (moves : List Move) (nothing : IsPlainPlan plan) (is : Is
     called = λ schedule clear. called_so run_seen unused (on TurnsAreCalled (alone.called (schedule_alone schedule) (clear_so clear)));
     whole = λ schedule. on MarkedUnitsAreWhole (alone.whole (schedule_alone schedule));
     asks_for = λ schedule. on CallsAskForMessages (alone.asks_for (schedule_alone schedule));
-    reply_marks = λ schedule. reply_marks_so run_seen (on RepliesAreMarked (alone.reply_marks (schedule_alone schedule)));
-    opened_marks = λ schedule. opened_marks_so run_seen (on OpeningsAreMarked (alone.opened_marks (schedule_alone schedule)));
     complete = complete_so plan moves nothing is (on (λ (q : Past). EachSucceeds q moves) alone.complete);
     one_by_one = one_by_one_so plan moves nothing is (on (λ (q : Past). NoneClashes q moves) alone.one_by_one);
     never_apart = λ schedule clear. never_apart_so run_seen (on MembersAreNeverApart (alone.never_apart (schedule_alone schedule) (clear_so clear)));

@@ -9,16 +9,14 @@ use Rattle.wire_base.specs.Lists.{OneOf}
 use Rattle.wire_base.proofs.ListLaws.{all_weaker, one_weaker}
 use Rattle.domain_controller.specs.State.{State as ControllerState}
 use Rattle.member_server.specs.declared.plan.MemberPlan.{MemberPlan}
-use Rattle.step_notes.specs.ControllerNotes.{has_passed}
-use Rattle.step_notes.specs.Records.{ChallengeSent, ChannelAccepted, InUnit, Judging, MessageTaken, OfMember, OfTrust, OutcomeTold, RequesterId}
+use Rattle.step_notes.specs.Records.{ChallengeSent, Judging, MessageTaken, OfMember, OfTrust, OutcomeTold, RequesterId}
 use Rattle.world_moves.specs.declared.state.State.{State}
 use Rattle.world_moves.specs.Counting.{is_in}
 use Rattle.world_moves.specs.Ends.{EndStates}
 use Rattle.world_moves.specs.Unforwarded.{alone_plan, erased, erased_controller, erased_ends, erased_world}
 use Rattle.domain_world.specs.Accepting.Sequences.{AnswersCall, AreSoFar, CallsOfTurns, IsMadeOn, RepliesAnswerCalls, TurnsAreCalled}
 use Rattle.domain_world.specs.Claims.{AcceptsAllGranted, AcceptsOnlyGranted, HasController, IsAccepted, IsGrantedBy, IsItsControllersAnswer, IsLetInShortly, IsToldIn, IsUnusedChallenge, ShortResponsesLetInOnce}
-use Rattle.domain_world.specs.Claims.MarkedUnits.{IsMarkedAsReply, RepliesAreMarked}
-use Rattle.domain_world.specs.Claims.OpeningReplies.{AnswersOpening, IsMarkedAsOpened, OpeningsAreMarked, RepliesAreToOpenings}
+use Rattle.domain_world.specs.Claims.OpeningReplies.{AnswersOpening, RepliesAreToOpenings}
 use Rattle.domain_world.specs.Claims.SharedSequences.{IsBeforeTurn, ChannelIsKept, SequenceIsOwn, SequenceIsShared, SequencesAreShared, ChannelStands, timestamps_on}
 use Rattle.channel_client.specs.State.{Requester}
 use Rattle.channel_client.specs.declared.state.Standing.TheVariants as standing
@@ -48,29 +46,6 @@ pub answered_so : (p : Past) → RepliesAnswerCalls (seen p) → RepliesAnswerCa
 answered_so p x = λ n unit one channel number request there is mark.
     let a : AnswersCall (seen p) channel number request n = x n unit one channel number request there is mark in
     record { sent = a.sent; there = a.there; named = a.named; timestamp = a.timestamp; mark = a.mark; same = a.same; passed = a.passed }
-
-opened_mark_so : (p : Past) (one : ChannelAccepted) (n : ℕ) → IsMarkedAsOpened (seen p) one n → IsMarkedAsOpened p one n
-opened_mark_so p one n m = record { reply = m.reply; is = m.is; sent = m.sent; there = m.there; mark = m.mark; step = m.step }
-
-pub opened_marks_so : (p : Past) → OpeningsAreMarked (seen p) → OpeningsAreMarked p
-opened_marks_so p x = all_weaker (λ (one : ChannelAccepted). (n : ℕ) → one.source ≡ InUnit n → IsMarkedAsOpened (seen p) one n)
-    (λ (one : ChannelAccepted). (n : ℕ) → one.source ≡ InUnit n → IsMarkedAsOpened p one n) p.book.accepted (λ one has. λ n is. opened_mark_so p one n (has n is)) x
-
-reply_mark_so : (p : Past) (j : Judging) (n : ℕ) → IsMarkedAsReply (seen p) j n → IsMarkedAsReply p j n
-reply_mark_so p j n m = record {
-  reply = m.reply;
-  is = m.is;
-  sent = m.sent;
-  there = m.there;
-  channel = m.channel;
-  passed = m.passed;
-  mark = m.mark;
-  step = m.step;
-}
-
-pub reply_marks_so : (p : Past) → RepliesAreMarked (seen p) → RepliesAreMarked p
-reply_marks_so p x = all_weaker (λ (j : Judging). (n : ℕ) → j.source ≡ InUnit n → has_passed j.how ≡ true → IsMarkedAsReply (seen p) j n)
-    (λ (j : Judging). (n : ℕ) → j.source ≡ InUnit n → has_passed j.how ≡ true → IsMarkedAsReply p j n) p.book.judged (λ j has. λ n is passed. reply_mark_so p j n (has n is passed)) x
 
 -- ---- whom members let in
 

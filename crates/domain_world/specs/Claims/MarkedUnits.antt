@@ -1,7 +1,8 @@
 -- What is written down of what the units of the bag were made for (this project's own choice).
-use Rattle.std.specs.Prelude.{ℕ, ◌≡◌, true, length, Some, slice_get}
+use Rattle.std.specs.Prelude.{ℕ, ◌≡◌, ◌≢◌, true, length, Some, slice_get}
 use Rattle.std.specs.List.{AllByRecursion}
 use Rattle.authenticators.specs.Channels.{ChannelIdentity}
+use Rattle.outside.specs.declared.action.Judged.TheVariants as judged
 use Rattle.channel_events.specs.Marks.{Calling, ReplyTo}
 use Rattle.step_notes.specs.ControllerNotes.{has_passed}
 use Rattle.step_notes.specs.Judged.{passed_channel}
@@ -48,7 +49,9 @@ pub record IsMarkedAsReply (past : Past) (j : Judging) (n : ℕ) : Type 0 where
   pub mark : sent.mark ≡ ReplyTo channel j.number n
   pub step : sent.at ≡ j.at
 
--- each call that passed and came in a unit of the bag has its reply in a unit that is marked as that
+-- Each call that passed and came in a unit of the bag has its reply in a unit that is marked as that, unless the call
+-- was handed on: such a call is answered once its answer has come, at a later step and in a unit that isn't written
+-- down with it.
 abbrev pub RepliesAreMarked : Past → Type 0
 RepliesAreMarked past =
-    AllByRecursion (λ (j : Judging). (n : ℕ) → j.source ≡ InUnit n → has_passed j.how ≡ true → IsMarkedAsReply past j n) past.book.judged
+    AllByRecursion (λ (j : Judging). (n : ℕ) → j.source ≡ InUnit n → has_passed j.how ≡ true → j.how ≢ Some judged.Forwarded → IsMarkedAsReply past j n) past.book.judged

@@ -92,7 +92,7 @@ module _ (plan : Plan) (moves : List Move) (nobody : IsPlainAlone plan) (schedul
       marked_opening p.world.state.bag a.number a.kind request carried (bytes_in p.world.state.bag (has_bytes plan moves nobody schedule).bytes request carried.carrier carried.there) made.named made.sent.mark made.made
       (subst (λ (u : BagUnit). FitsMark u made.sent.mark) unit had.holds) (marks_have_their_way plan moves nobody.plain request carried.carrier made.sent carried.there made.noted) in
       let answer : IsMarkedAsOpened p a request =
-      got_all (λ (x : ChannelAccepted). (k : ℕ) → x.source ≡ InUnit k → IsMarkedAsOpened p x k) p.book.accepted at.place a (openings_marked plan moves nobody schedule) at.there request at.is.came in
+      got_all (λ (x : ChannelAccepted). (k : ℕ) → x.source ≡ InUnit k → IsMarkedAsOpened p x k) p.book.accepted at.place a (openings_marked plan moves nobody.plain) at.there request at.is.came in
       let reply : answer.reply ≡ n = some_is answer.reply n (sym answer.is ∙ at.is.answer) in
       let same : answer.sent ≡ one = some_is answer.sent one (sym answer.there ∙ ap (λ (k : ℕ). slice_get p.book.sent k) reply ∙ there) in
       record {

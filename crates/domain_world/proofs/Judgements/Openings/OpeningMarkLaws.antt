@@ -5,6 +5,9 @@ use Rattle.std.specs.List.{AllByRecursion}
 use Rattle.authenticators.specs.Channels.{ChannelIdentity}
 use Rattle.controller_calls.specs.declared.calls.ControllerCall.TheVariants as call
 use Rattle.end_links.specs.Serving.{ServedUnit}
+use Rattle.outside.specs.declared.action.Judged.{Judged}
+use Rattle.outside.specs.declared.action.Judged.TheVariants as judged
+use Rattle.domain_controller.specs.Forwarding.{TrustDesk, base_desk}
 use Rattle.domain_controller.specs.Hearing.{hear}
 use Rattle.domain_controller.specs.Machine.{Desk}
 use Rattle.domain_controller.specs.declared.hearing.Heard.{Heard}
@@ -15,6 +18,7 @@ use Rattle.step_notes.specs.ControllerNotes.{Answered, Where, answer_on, channel
 use Rattle.step_notes.specs.Marking.{answered_marks, mark_if}
 use Rattle.step_notes.specs.Records.{ChannelAccepted, InUnit, Judging, Source, computer_named, unit_in}
 use Rattle.step_notes.specs.Served.{work_after}
+use Rattle.step_notes.specs.TrustNotes.{base_after, trust_answer_on, trust_heard_answer, trust_judging_by}
 use Rattle.domain_world.specs.Past.{accepted_of, first_of, later_of, onto, replied_with}
 use Rattle.domain_world.proofs.Moves.MarkNumberLaws.{AtNumbers, at_later}
 
@@ -52,6 +56,29 @@ heard_so (heard.Asked line (call.Challenge c) talk) w d after = tt
 heard_so (heard.Asked line (call.Authenticate c) talk) w d after = opening_so (opened_by w.controller c d) w line.call c.channel
 heard_so (heard.Asked line (call.Judged c) talk) w d after =
     judging_so w.at w.source (has_passed (judging_of w line c d after).how) (judging_of w line c d after)
+
+-- as `accepts_so`, of a controller that may hand logons on
+by_so : (moves : ℕ) (source : Source) (how : Option Judged) (j : Judging) → AcceptsSo moves source (trust_judging_by how j)
+by_so moves source None j = judging_so moves source false j
+by_so moves source (Some (judged.Passed status)) j = judging_so moves source true j
+by_so moves source (Some judged.Forwarded) j = tt
+by_so moves source (Some (judged.Answered status)) j = judging_so moves source false j
+by_so moves source (Some judged.Barred) j = judging_so moves source false j
+by_so moves source (Some judged.NoChannel) j = judging_so moves source false j
+
+trust_heard_so : (what : Heard) (w : Where) (d : Desk) (after : Option Desk) → AcceptsSo w.at w.source (trust_heard_answer what w d after)
+trust_heard_so (heard.Close cause) w d after = tt
+trust_heard_so (heard.Answer bytes talk) w d after = tt
+trust_heard_so (heard.Waits talk) w d after = tt
+trust_heard_so (heard.Asked line (call.Challenge c) talk) w d after = tt
+trust_heard_so (heard.Asked line (call.Authenticate c) talk) w d after = opening_so (opened_by w.controller c d) w line.call c.channel
+trust_heard_so (heard.Asked line (call.Judged c) talk) w d after =
+    by_so w.at w.source (judging_of w line c d after).how (judging_of w line c d after)
+
+pub trust_accepts_so : (w : Where) (link : ℕ) (units : List (ServedUnit TrustDesk Talk)) → AllByRecursion (AcceptsSo w.at w.source) (map (trust_answer_on link w) units)
+trust_accepts_so w link [] = tt
+trust_accepts_so w link (unit ∷ units) =
+    (trust_heard_so (hear link unit.bytes unit.talk) w (base_desk unit.work) (base_after (work_after unit.part)), trust_accepts_so w link units)
 
 pub accepts_so : (w : Where) (link : ℕ) (units : List (ServedUnit Desk Talk)) → AllByRecursion (AcceptsSo w.at w.source) (map (answer_on link w) units)
 accepts_so w link [] = tt
