@@ -3,3 +3,4 @@ pub mod ClientNoteLaws
 pub mod Controllers
 pub mod Members
 pub mod ServedLaws
+pub mod Stations

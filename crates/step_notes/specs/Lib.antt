@@ -13,6 +13,8 @@ pub mod MemberNotes
 pub mod Records
 pub mod ReplySends
 pub mod Served
+pub mod StationNotes
+pub mod StationSteps
 pub mod TakenWhole
 pub mod TrustNotes
 pub mod TrustReplies

@@ -154,6 +154,31 @@ pub record CallTaken : Type 0 where
   pub call : ℕ
   pub reply : ℕ
 
+-- ---- at a station
+
+-- A NetrLogonSamLogon that a station made, which logs its user on by the hash (MS-NRPC 3.5.4.5.3). A station makes one
+-- in each of its lives.
+pub record StationLogon : Type 0 where
+  pub at : ℕ
+  pub station : ℕ
+  -- the link on which it went out, and the unit of the bag that carries it
+  pub link : ℕ
+  pub unit : ℕ
+  -- the channel on which it was made, and its number
+  pub channel : ChannelIdentity
+  pub number : ℕ
+  -- the unit of the bag that the station took as its answer, once it took one
+  pub reply : Option ℕ
+
+-- A station told that its user is in, with these names and that key.
+pub record StationTold : Type 0 where
+  pub at : ℕ
+  pub station : ℕ
+  pub link : ℕ
+  pub domain : List ℕ
+  pub user : List ℕ
+  pub key : List ℕ
+
 -- ---- at a client
 
 -- An AUTHENTICATE that a client made for the CHALLENGE that it heard (MS-NLMP 3.1.5.1.2).

@@ -8,6 +8,7 @@ ghost use Rattle.step_notes.specs.HeardWhole.{ControllersHearWhole};
 ghost use Rattle.step_notes.specs.JudgedInRange.{PassedRepliesAreRead};
 ghost use Rattle.step_notes.specs.KeptNotes.{CallsAreKept};
 ghost use Rattle.step_notes.specs.ReplySends.{RepliesAreSentAsJudged};
+ghost use Rattle.step_notes.specs.StationSteps.{StationsAreNoted};
 ghost use Rattle.step_notes.specs.TakenWhole.{MembersTakeWhole};
 ghost use Rattle.step_notes.specs.TrustNotes.{NotesAreAlike};
 ghost use Rattle.step_notes.specs.TrustReplies.{TrustRepliesAreSent};
@@ -125,4 +126,14 @@ pub fn members_take_whole()
 #[tactic(auto, using(crate::proofs::Controllers::TrustNoteLaws::notes_alike))]
 pub fn notes_are_alike()
     ensures { NotesAreAlike }
+{}
+
+/// What is written down of the bytes that come on a station's link is what its machine does at them. It sends one unit
+/// for each note that sends, all of the request of its call, with the number of its mark. A reply is noted as taken
+/// exactly where the station goes on by it, or ends by it with a status or with its user off, on the channel of the
+/// call; and the Logon is granted exactly where a reply of status 0 is taken (MS-NRPC 3.5.4.4.3, 3.5.4.5.3, 3.5.4.5.4).
+/// What is seen of its channel changes as that of a member does.
+#[tactic(auto, using(crate::proofs::Stations::StationNoteLaws::stations_noted))]
+pub fn stations_are_noted()
+    ensures { StationsAreNoted }
 {}
